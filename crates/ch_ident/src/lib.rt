@@ -1,0 +1,18 @@
+//! What processes and nodes say to one another, and its one spelling in bytes: identifiers,
+//! references, names, reasons, user messages and the messages from node to node.
+//! Below stands ch_base with addresses and texts; mailboxes, watches and nodes stand above.
+#![tactic(auto)]
+
+mod error;
+mod identifier;
+mod message;
+mod name;
+mod node_message;
+mod reason;
+
+pub use error::IdentError;
+pub use identifier::{Identifier, MonitorRef, ProcessId, Ref, SendPortId, SpawnRef};
+pub use message::Message;
+pub use name::Name;
+pub use node_message::NodeMessage;
+pub use reason::Reason;
