@@ -1,0 +1,12 @@
+//! What a node waits for, what it keeps for others, and its names.
+//!
+//! It stands on the identifiers of `ch_ident` alone. A node opens a number here for each monitor, link,
+//! spawn and question, keeps here who watches its own processes, and registers its names here.
+#![tactic(auto)]
+
+mod error;
+mod waiting;
+mod watched;
+
+pub use error::WatchError;
+pub use waiting::{Kind, Waiting};
