@@ -1,3 +1,4 @@
+pub mod Lives
 pub mod Process
 pub mod Queue
 pub mod Mail

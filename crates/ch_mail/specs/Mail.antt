@@ -9,6 +9,7 @@ use Rattle.ch_mail.specs.declared.life.Life.{Life}
 use Rattle.ch_mail.specs.declared.life.Life.TheVariants.{Live, Doomed, Over}
 use Rattle.ch_mail.specs.declared.error.MailError.{MailError}
 use Rattle.ch_mail.specs.declared.error.MailError.TheVariants.{NotLive, Empty, OutOfMemory, Worn}
+use Rattle.ch_mail.specs.Lives.{is_live, is_over}
 use Rattle.ch_mail.specs.Process.{Process}
 use Rattle.ch_mail.specs.Queue.{first_of_mark, first_of}
 
@@ -22,6 +23,11 @@ abbrev pub ◌>>=◌ : {A B : Type 0} → Result A MailError → (A → Result B
 abbrev pub Fails : {A : Type 0} → MailError → Result A MailError → Type 0
 Fails OutOfMemory given = Unit {0}
 Fails e given = given ≡ Err e
+
+-- a stop is the one that is defined, but that want of memory may come at any call
+abbrev pub Stops : {A : Type 0} → Stop → Result A Stop → Type 0
+Stops stops.OutOfMemory given = Unit {0}
+Stops stops.Worn given = given ≡ Err stops.Worn
 
 -- what is there, or the refusal where it isn't
 abbrev pub there_or : {A : Type 0} → MailError → Option A → Result A MailError
@@ -40,18 +46,6 @@ last_u64 = 18446744073709551615
 -- a new process is live, and nothing waits
 unfoldable pub newborn : Process
 newborn = record { life = Live; mailbox = []; ports = [] }
-
--- a live process acts
-abbrev pub is_live : Life → Bool
-is_live Live = true
-is_live (Doomed text) = false
-is_live (Over reason) = false
-
--- a process that is over gets nothing more
-abbrev pub is_over : Life → Bool
-is_over Live = false
-is_over (Doomed text) = false
-is_over (Over reason) = true
 
 -- how many messages wait, in the mailbox and in all ports
 unfoldable pub waiting_in : Process → ℕ

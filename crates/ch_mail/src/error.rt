@@ -4,6 +4,7 @@ ghost use Rattle.std.specs.Prelude.{◌≡◌};
 ghost use Rattle.ch_mail.specs.declared.error.MailError.TheVariants.{OutOfMemory as mail_out_of_memory};
 
 use ch_base::OutOfMemory;
+use std::alloc::AllocFailed;
 
 /// Why a call is refused.
 #[derive(Clone, Copy, Debug, PartialEq, Eq)]
@@ -22,6 +23,14 @@ impl From<OutOfMemory> for MailError {
     ghost from_gives = { λ _ e. e ≡ mail_out_of_memory };
 
     fn from(_e: OutOfMemory) -> MailError {
+        MailError::OutOfMemory
+    }
+}
+
+impl<T: Drop> From<AllocFailed<T>> for MailError {
+    ghost from_gives = { λ _ e. e ≡ mail_out_of_memory };
+
+    fn from(_e: AllocFailed<T>) -> MailError {
         MailError::OutOfMemory
     }
 }

@@ -6,10 +6,10 @@
 
 mod error;
 mod life;
-// mod mail;
-// mod process;
-// mod queue;
+mod mail;
+mod process;
+mod queue;
 
 pub use error::MailError;
 pub use life::Life;
-// pub use mail::Mail;
+pub use mail::Mail;

@@ -1,6 +1,7 @@
 //! Whether a process acts, is doomed, or is over.
 
 ghost use Rattle.std.specs.Prelude.{◌≡◌, IfOk};
+ghost use Rattle.ch_mail.specs.Lives.{is_live, is_over};
 
 use ch_base::{OutOfMemory, Text};
 use ch_ident::Reason;
@@ -17,6 +18,20 @@ pub enum Life {
 }
 
 impl Life {
+    /// Whether it acts.
+    pub fn is_live(&self) -> bool
+        ensures { result ≡ is_live self.now }
+    {
+        matches!(self, Life::Live)
+    }
+
+    /// Whether it is over.
+    pub fn is_over(&self) -> bool
+        ensures { result ≡ is_over self.now }
+    {
+        matches!(self, Life::Over(_))
+    }
+
     /// An equal life.
     pub fn copy(&self) -> Result<Life, OutOfMemory>
         ensures { IfOk result (λ life. life ≡ self.now) }
