@@ -1,0 +1,13 @@
+pub mod States
+pub mod Node
+pub mod World
+pub mod Fields
+pub mod Spelling
+pub mod Lines
+pub mod Journal
+pub mod Counts
+pub mod Life
+pub mod Delivery
+pub mod Mailboxes
+pub mod Answers
+pub mod Lawful
