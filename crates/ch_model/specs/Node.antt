@@ -39,6 +39,11 @@ of_mail_error mails.Empty = Empty
 of_mail_error mails.OutOfMemory = OutOfMemory
 of_mail_error mails.Worn = Worn
 
+-- how a stop is told to the process that asked
+abbrev pub of_stop : Stop → CommandError
+of_stop stops.OutOfMemory = OutOfMemory
+of_stop stops.Worn = Worn
+
 abbrev pub mailed : {A : Type 0} → Result A MailError → Result A CommandError
 mailed (Ok x) = Ok x
 mailed (Err e) = Err (of_mail_error e)

@@ -2,7 +2,7 @@
 
 ghost use Rattle.std.specs.Prelude.{◌≡◌, IfOk};
 ghost use Rattle.ch_model.specs.declared.command.CommandError.TheVariants as errors;
-ghost use Rattle.ch_model.specs.Node.{of_mail_error};
+ghost use Rattle.ch_model.specs.Node.{of_mail_error, of_stop};
 
 use ch_base::{OutOfMemory, Stop};
 use ch_ident::{Message, Name, ProcessId};
@@ -84,6 +84,17 @@ impl From<MailError> for CommandError {
             MailError::Empty => CommandError::Empty,
             MailError::OutOfMemory => CommandError::OutOfMemory,
             MailError::Worn => CommandError::Worn,
+        }
+    }
+}
+
+impl From<Stop> for CommandError {
+    ghost from_gives = { λ stop e. e ≡ of_stop stop };
+
+    fn from(stop: Stop) -> CommandError {
+        match stop {
+            Stop::OutOfMemory => CommandError::OutOfMemory,
+            Stop::Worn => CommandError::Worn,
         }
     }
 }

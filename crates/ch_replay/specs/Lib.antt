@@ -1,0 +1,4 @@
+pub mod Replayed
+pub mod Outside
+pub mod Words
+pub mod Ends
