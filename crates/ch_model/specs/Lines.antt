@@ -1,5 +1,5 @@
 -- Which texts are lines, and what they say, given the lines before.
-use Rattle.std.specs.Prelude.{ℕ, Bool, true, false, List, Option, Some, None, Result, Ok, Err, is_some, not, if◌then◌else◌, codes}
+use Rattle.std.specs.Prelude.{ℕ, Bool, true, false, List, [], ◌∷◌, ◌==◌, Option, Some, None, Result, Ok, Err, is_some, not, if◌then◌else◌, codes}
 use Rattle.std.specs.Str.{bytes_eq}
 use Rattle.ch_model.specs.declared.refusal.BadKind.{BadKind}
 use Rattle.ch_model.specs.declared.refusal.BadKind.TheVariants.{Form, Undeclared}
@@ -124,8 +124,13 @@ abbrev pub said_and_told : Told → Result What BadKind → Result (Option What 
 said_and_told told (Err kind) = Err kind
 said_and_told told (Ok what) = Ok (Some what, told_after told what)
 
--- reading one line: the header says nothing, each other line what it says
+-- an empty line, or a comment, which begins with `;`
+abbrev pub says_nothing : List ℕ → Bool
+says_nothing [] = true
+says_nothing (b ∷ bs) = b == 59
+
+-- reading one line: the header says nothing, nor does an empty line or a comment after it; each other line what it says
 abbrev pub read_line : Told → List ℕ → Result (Option What × Told) BadKind
 read_line told text =
-    if told.header then said_and_told told (line_said told text)
+    if told.header then (if says_nothing text then Ok (None, told) else said_and_told told (line_said told text))
     else (if bytes_eq text header then Ok (None, record told { header = true }) else Err Form)
