@@ -1,0 +1,4 @@
+pub mod Outcome
+pub mod ReadingState
+pub mod Reading
+pub mod Statuses

@@ -1,0 +1,218 @@
+//! The fields of a line, each with its class.
+//!
+//! A reader answers the first refusal; of a number it asks only that it is digits, until
+//! `numbered` is asked for its value.
+
+ghost use Rattle.std.specs.Prelude.{◌≡◌, ◌==◌, ◌<◌, length, IfSome, position};
+ghost use Rattle.std.specs.List.{list_all};
+ghost use Rattle.std.specs.Option.{option_map};
+ghost use Rattle.ch_base.specs.Numbers.{is_digit_of, are_digits as are_digits_of};
+ghost use Rattle.ch_model.specs.Fields.{at_byte, field_of, last_of, is_letter_of, is_name_byte_of, begins_with_letter as begins_with_letter_of, begins_with_dollar as begins_with_dollar_of, is_dash as is_dash_of, is_node_name_of, node_name_of, digits_of, process_of, word_of, sent_mark_of, bytes_of, address_of, number_in};
+ghost use Rattle.ch_model.specs.Lines.{numbered as numbered_of};
+ghost use Rattle.ch_journal.specs.Outcome.{Gives};
+
+use crate::fault::Fault;
+use ch_base::{Address, Text, read_number};
+use ch_ident::Name;
+use ch_model::{BadKind, ProcName};
+use std::alloc::Global;
+
+/// The most bytes of a node's name.
+const MOST_NAME_BYTES: usize = 16;
+
+/// What stands before the first such byte, and what stands after it.
+#[tactic(auto, using(crate::proofs::Fields::at_byte_is))]
+pub fn split_at_byte(byte: u8, text: &[u8]) -> Option<(&[u8], &[u8])>
+    ensures { option_map (λ p. (p.0.now, p.1.now)) result ≡ at_byte byte text.now }
+{
+    match place_of(byte, text) {
+        None => None,
+        Some(i) => Some((text.split_at(i).0, text.split_at(i + 1).1)),
+    }
+}
+
+fn place_of(byte: u8, text: &[u8]) -> Option<usize>
+    ensures place { result ≡ position (λ b. b == byte) text.now }
+    ensures within { IfSome result (λ i. i < length text.now) }
+{
+    text.iter().position(|b| *b == byte)
+}
+
+/// The next field, and what follows its space where one comes.
+#[tactic(auto, unfolding(ch_model::specs::Fields::field_of))]
+pub(crate) fn field(rest: Option<&[u8]>) -> Result<(&[u8], Option<&[u8]>), Fault>
+    ensures { Gives (λ p. (p.0.now, option_map (λ r. r.now) p.1)) result (field_of (option_map (λ r. r.now) rest.entry)) }
+{
+    match rest {
+        None => Err(Fault::Bad(BadKind::Form)),
+        Some(text) => match split_at_byte(b' ', text) {
+            None => Ok((text, None)),
+            Some((front, back)) => Ok((front, Some(back))),
+        },
+    }
+}
+
+/// No field is left.
+#[tactic(auto, unfolding(ch_model::specs::Fields::last_of))]
+pub(crate) fn last(rest: Option<&[u8]>) -> Result<bool, Fault>
+    ensures { Gives (λ x. x) result (last_of (option_map (λ r. r.now) rest.entry)) }
+{
+    match rest {
+        None => Ok(true),
+        Some(_) => Err(Fault::Bad(BadKind::Form)),
+    }
+}
+
+fn is_letter(b: u8) -> bool
+    ensures { result ≡ is_letter_of b }
+{
+    b'a' <= b && b <= b'z'
+}
+
+fn is_name_byte(b: u8) -> bool
+    ensures { result ≡ is_name_byte_of b }
+{
+    is_letter(b) || (b'0' <= b && b <= b'9')
+}
+
+fn all_name_bytes(text: &[u8]) -> bool
+    ensures { result ≡ list_all is_name_byte_of text.now }
+{
+    text.iter().all(|b| is_name_byte(*b))
+}
+
+fn begins_with_letter(text: &[u8]) -> bool
+    ensures { result ≡ begins_with_letter_of text.now }
+{
+    match text {
+        [] => false,
+        [b, ..] => is_letter(*b),
+    }
+}
+
+/// A node's name: 1 to 16 lower-case letters and digits, the first a letter.
+#[tactic(auto, unfolding(ch_model::specs::Fields::node_name_of))]
+pub(crate) fn node_name(field: &[u8]) -> Result<&[u8], Fault>
+    ensures { Gives (λ x. x.now) result (node_name_of field.now) }
+{
+    if begins_with_letter(field) && field.len() <= MOST_NAME_BYTES && all_name_bytes(field) {
+        Ok(field)
+    } else {
+        Err(Fault::Bad(BadKind::Form))
+    }
+}
+
+fn is_digit(b: u8) -> bool
+    ensures { result ≡ is_digit_of b }
+{
+    b'0' <= b && b <= b'9'
+}
+
+fn all_digits(bytes: &[u8]) -> bool
+    ensures { result ≡ list_all is_digit_of bytes.now }
+{
+    bytes.iter().all(|b| is_digit(*b))
+}
+
+/// Digits, at least one.
+#[tactic(auto, unfolding(ch_model::specs::Fields::digits_of))]
+pub(crate) fn digits(field: &[u8]) -> Result<&[u8], Fault>
+    ensures { Gives (λ x. x.now) result (digits_of field.now) }
+{
+    if !field.is_empty() && all_digits(field) {
+        Ok(field)
+    } else {
+        Err(Fault::Bad(BadKind::Form))
+    }
+}
+
+/// A process: a node's name, a dot and digits.
+#[tactic(auto, unfolding(ch_model::specs::Fields::process_of))]
+pub(crate) fn process(field: &[u8]) -> Result<(&[u8], &[u8]), Fault>
+    ensures { Gives (λ p. (p.0.now, p.1.now)) result (process_of field.now) }
+{
+    let (name, number) = split_at_byte(b'.', field).ok_or(Fault::Bad(BadKind::Form))?;
+    let name = node_name(name)?;
+    let number = digits(number)?;
+    Ok((name, number))
+}
+
+/// A mark, or a label: a name.
+#[tactic(auto, unfolding(ch_model::specs::Fields::word_of, ch_ident::specs::Reading::name_of))]
+pub(crate) fn word(alloc: Global, field: &[u8]) -> Result<Name, Fault>
+    ensures { Gives (λ x. x) result (word_of field.now) }
+{
+    Ok(Name::new(alloc, field)?)
+}
+
+fn begins_with_dollar(text: &[u8]) -> bool
+    ensures { result ≡ begins_with_dollar_of text.now }
+{
+    match text {
+        [] => false,
+        [b, ..] => *b == b'$',
+    }
+}
+
+/// The mark of a message that is sent, which doesn't begin with `$`.
+#[tactic(auto, unfolding(ch_model::specs::Fields::sent_mark_of))]
+pub(crate) fn sent_mark(alloc: Global, field: &[u8]) -> Result<Name, Fault>
+    ensures { Gives (λ x. x) result (sent_mark_of field.now) }
+{
+    let mark = word(alloc, field)?;
+    if begins_with_dollar(mark.bytes.as_slice()) {
+        return Err(Fault::Bad(BadKind::Form));
+    }
+    Ok(mark)
+}
+
+fn is_dash(text: &[u8]) -> bool
+    ensures { result ≡ is_dash_of text.now }
+{
+    match text {
+        [b] => *b == b'-',
+        _ => false,
+    }
+}
+
+/// Bytes: `-` for none, else pairs of hexadecimal digits in either case, at least one pair.
+#[tactic(auto, unfolding(ch_model::specs::Fields::bytes_of))]
+pub(crate) fn bytes(alloc: Global, field: &[u8]) -> Result<Text, Fault>
+    ensures { Gives (λ x. x) result (bytes_of field.now) }
+{
+    if is_dash(field) {
+        return Ok(Text::new(alloc));
+    }
+    if field.is_empty() {
+        return Err(Fault::Bad(BadKind::Form));
+    }
+    Ok(Text::from_vec(hex::decode(alloc, field)?))
+}
+
+/// An address.
+#[tactic(auto, unfolding(ch_model::specs::Fields::address_of))]
+pub(crate) fn address(alloc: Global, field: &[u8]) -> Result<Address, Fault>
+    ensures { Gives (λ x. x) result (address_of field.now) }
+{
+    Ok(Address::read(alloc, field)?)
+}
+
+/// The number of digits: without a leading zero, at most 4294967295.
+#[tactic(auto, unfolding(ch_model::specs::Fields::number_in))]
+pub(crate) fn number(digits: &[u8]) -> Result<u32, Fault>
+    ensures { Gives (λ x. x) result (number_in digits.now) }
+{
+    Ok(read_number(digits, u32::MAX).ok_or(Fault::Bad(BadKind::Number))?)
+}
+
+/// A process whose number is in its range.
+#[tactic(auto, unfolding(ch_model::specs::Lines::numbered))]
+pub(crate) fn numbered(alloc: Global, name: &[u8], digits: &[u8]) -> Result<ProcName, Fault>
+    ensures { Gives (λ x. x) result (numbered_of (name.now, digits.now)) }
+{
+    let counter = number(digits)?;
+    Ok(ProcName {
+        node: Text::of(alloc, name)?,
+        counter,
+    })
+}

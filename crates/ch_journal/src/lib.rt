@@ -1,0 +1,17 @@
+//! The texts of journals and logs: a journal's lines are read, and lines and entries are written,
+//! each as its one text. Statuses, what a program tells whoever started it, stand here too.
+//!
+//! Below stand the lines and entries as types. The top calls and the programs stand above.
+#![tactic(auto)]
+
+mod fault;
+mod field;
+mod line;
+mod reading;
+mod status;
+mod writing;
+
+pub use field::split_at_byte;
+pub use reading::{JournalError, Reading};
+pub use status::Status;
+pub use writing::{put_entry, put_line};
