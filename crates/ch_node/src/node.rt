@@ -1,13 +1,14 @@
 //! The node's calls.
 
-ghost use Rattle.std.specs.Prelude.{◌≡◌, true, false, IfErr, IsErrOf, MatchResult, Ok, Err, option_copied};
+ghost use Rattle.std.specs.Prelude.{◌≡◌, true, false, IfOk, IfErr, IsErrOf, MatchResult, Ok, Err, option_copied};
 ghost use Rattle.ch_mail.specs.Mail.{life_of, waiting_of};
-ghost use Rattle.ch_model.specs.Node.{Fails, command_of, node_make, new_node};
+ghost use Rattle.ch_model.specs.Node.{Fails, command_of, node_make, new_node, process_id};
 ghost use Rattle.ch_model.specs.declared.command.CommandError.TheVariants as errors;
 ghost use Rattle.ch_node.specs.Calls.{Leaves, is_want_of};
 
 use crate::state::{Outcome, State};
-use ch_base::Address;
+use ch_base::{Address, OutOfMemory};
+use ch_ident::ProcessId;
 use ch_mail::Life;
 use ch_model::{Command, CommandError};
 use std::alloc::Global;
@@ -83,6 +84,13 @@ impl Node {
         let done = self.state.command(by, command);
         self.failed = is_want(&done);
         done
+    }
+
+    /// The id of the process with this number.
+    pub fn id(&self, counter: u32) -> Result<ProcessId, OutOfMemory>
+        ensures { IfOk result (λ p. p ≡ process_id self.now.state counter) }
+    {
+        self.state.id(counter)
     }
 
     /// The life of a process. None exactly where it wasn't made. It takes no memory.

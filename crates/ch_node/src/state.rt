@@ -81,7 +81,7 @@ impl State {
     }
 
     /// The id of the process with this number.
-    fn id(&self, counter: u32) -> Result<ProcessId, OutOfMemory>
+    pub(crate) fn id(&self, counter: u32) -> Result<ProcessId, OutOfMemory>
         ensures { IfOk result (λ p. p ≡ process_id self.now counter) }
     {
         Ok(ProcessId {

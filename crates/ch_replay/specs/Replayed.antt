@@ -13,6 +13,7 @@ use Rattle.ch_model.specs.World.{◌>>=◌, world_step}
 use Rattle.ch_model.specs.Lines.{Told, untold, read_line}
 use Rattle.ch_model.specs.Journal.{longest_journal, raw_lines, size_of, is_too_long}
 use Rattle.ch_model.specs.Spelling.{log_text}
+use Rattle.ch_journal.specs.ReadingState.{ReadingState}
 
 -- what the lines so far have told, how many they are, and the world that they made
 pub record Progress : Type 0 where
@@ -62,3 +63,20 @@ Stops stops.Worn given = given ≡ Err stops.Worn
 abbrev pub Gives : {X Y : Type 0} → (X → Y) → Result X Stop → Result Y Stop → Type 0
 Gives view (Ok x) given = given ≡ Ok (view x)
 Gives view (Err e) given = Stops e given
+
+abbrev pub progress_of : ReadingState → Option World → Progress
+progress_of reading world = record { told = reading.told; number = reading.number; world = world }
+
+-- What a turn did: a line went on, with its text appended; or was refused, and nothing was; or a count is worn.
+abbrev pub IsTurn : Result (Option BadKind) Stop → ReadingState → ReadingState → Option World → Option World → List ℕ → List ℕ → List ℕ → Type 0
+IsTurn (Ok None) before now world after line old new =
+    (now.refused ≡ None) × (now.number ≡ before.number + 1) × (more : List ℕ)
+    × (one_line (progress_of before world) line ≡ Ok (Ok (more, progress_of now after))) × (new ≡ old ++ more)
+IsTurn (Ok (Some kind)) before now world after line old new = (one_line (progress_of before world) line ≡ Ok (Err kind)) × (new ≡ old)
+IsTurn (Err stops.OutOfMemory) before now world after line old new = Unit {0}
+IsTurn (Err stops.Worn) before now world after line old new = one_line (progress_of before world) line ≡ Err stops.Worn
+
+-- a text before all that follows
+abbrev pub onto : List ℕ → Result (List ℕ × Option (ℕ × LineFault)) Stop → Result (List ℕ × Option (ℕ × LineFault)) Stop
+onto text (Ok more) = Ok (after_text text more)
+onto text (Err stop) = Err stop

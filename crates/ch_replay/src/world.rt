@@ -1,10 +1,13 @@
 //! The world of a journal: its node, in the journal's names.
 
-ghost use Rattle.std.specs.Prelude.{◌≡◌, ℕ, ◌++◌, ◌∷◌, [], IfOk, MatchResult, Ok, Err, Some, None};
-ghost use Rattle.ch_model.specs.World.{name_of, entries_of, answered as answered_of, event_of, world_step};
-ghost use Rattle.ch_model.specs.Node.{new_node};
+ghost use Rattle.std.specs.Prelude.{◌≡◌, ℕ, ◌++◌, ◌∷◌, [], IfOk, IfErr, MatchResult, Ok, Err, Some, None};
+ghost use Rattle.ch_model.specs.World.{name_of, entries_of, event_of, world_step};
+ghost use Rattle.ch_model.specs.Node.{Fails, new_node, command_of, process_id};
+ghost use Rattle.ch_model.specs.declared.command.Command.TheVariants.{Send};
+ghost use Rattle.ch_model.specs.declared.entry.Entry.TheVariants.{Line as EntryLine};
+ghost use Rattle.ch_node.specs.Calls.{KeepsBut};
 ghost use Rattle.ch_replay.specs.Replayed.{Gives, Stops};
-ghost use Rattle.ch_replay.specs.Entries.{entry_at, place_after as place_after_of};
+ghost use Rattle.ch_replay.specs.Entries.{entry_at, entries_answered, declared_by, place_after as place_after_of};
 
 use ch_base::{Address, OutOfMemory, Stop, Text};
 use ch_ident::{Message, ProcessId};
@@ -29,20 +32,11 @@ impl Model for World {
 }
 
 /// The epoch and the index of the said before, for the got that may follow.
-#[derive(Clone, Copy)]
-struct Place {
-    epoch: u64,
-    index: u64,
-}
-
-fn place_after(place: Place, note: &Note) -> Place
-    ensures { (result.epoch, result.index) ≡ place_after_of place.epoch place.index note.now }
+fn place_after(place: (u64, u64), note: &Note) -> (u64, u64)
+    ensures { result ≡ place_after_of place note.now }
 {
     match note {
-        Note::Said { epoch, index, .. } => Place {
-            epoch: *epoch,
-            index: *index,
-        },
+        Note::Said { epoch, index, .. } => (*epoch, *index),
         _ => place,
     }
 }
@@ -68,8 +62,8 @@ impl World {
     }
 
     /// The entry that a note stands for.
-    fn entry(&self, place: Place, note: &Note) -> Result<Entry, OutOfMemory>
-        ensures { IfOk result (λ e. e ≡ entry_at self.now place.epoch place.index note.now) }
+    fn entry(&self, place: (u64, u64), note: &Note) -> Result<Entry, OutOfMemory>
+        ensures { IfOk result (λ e. e ≡ entry_at self.now place.0 place.1 note.now) }
     {
         Ok(match note {
             Note::Made { process } => Entry::Made {
@@ -92,8 +86,8 @@ impl World {
             Note::Got { by, to, receiver } => Entry::Got {
                 by: self.name(by)?,
                 to: self.name(to)?,
-                epoch: place.epoch,
-                index: place.index,
+                epoch: place.0,
+                index: place.1,
                 receiver: self.name(receiver)?,
             },
             Note::Took { by, message } => Entry::Took {
@@ -109,12 +103,13 @@ impl World {
     }
 
     /// An answer, and the entries that the notes of what was done stand for.
+    #[tactic(auto, using(crate::proofs::Worlds::entries_step))]
     fn entries(&self, alloc: Global, first: Entry, notes: &[Note]) -> Result<Vec<Entry>, OutOfMemory>
         ensures { IfOk result (λ es. es.items ≡ first ∷ entries_of self.now notes.now) }
     {
         let mut entries = Vec::new(alloc);
         entries.push(first)?;
-        let mut place = Place { epoch: 0, index: 0 };
+        let mut place = (0, 0);
         for note in notes {
             entries.push(self.entry(place, note)?)?;
             place = place_after(place, note);
@@ -123,18 +118,104 @@ impl World {
     }
 
     /// The entries of a line that was answered.
-    fn answered(&self, alloc: Global, number: u32, done: Result<Vec<Note>, CommandError>) -> Result<Vec<Entry>, Stop>
-        ensures { Gives (λ es. es.items) result (entries_answered self.now number done) }
+    fn answered(
+        &self,
+        alloc: Global,
+        number: u32,
+        done: Result<Vec<Note>, CommandError>,
+    ) -> Result<Vec<Entry>, Stop>
+        ensures { Gives (λ es. es.items) result (entries_answered (λ notes. notes.items) self.now number done) }
     {
-        let answer = match &done {
-            Ok(_) => Verdict::Ok,
-            Err(CommandError::Unknown) => Verdict::Unknown,
-            Err(CommandError::Dead) => Verdict::Dead,
-            Err(CommandError::Empty) => Verdict::Empty,
-            Err(CommandError::OutOfMemory) => return Err(Stop::OutOfMemory),
-            Err(CommandError::Worn) => return Err(Stop::Worn),
-        };
-        let notes = done.unwrap_or(Vec::new(alloc));
-        self.entries(alloc, Entry::Line { number, answer }, &notes)
+        match done {
+            Ok(notes) => self.told(alloc, number, Verdict::Ok, notes.as_slice()),
+            Err(CommandError::Unknown) => self.told(alloc, number, Verdict::Unknown, &[]),
+            Err(CommandError::Dead) => self.told(alloc, number, Verdict::Dead, &[]),
+            Err(CommandError::Empty) => self.told(alloc, number, Verdict::Empty, &[]),
+            Err(CommandError::OutOfMemory) => Err(Stop::OutOfMemory),
+            Err(CommandError::Worn) => Err(Stop::Worn),
+        }
+    }
+
+    fn told(
+        &self,
+        alloc: Global,
+        number: u32,
+        answer: Verdict,
+        notes: &[Note],
+    ) -> Result<Vec<Entry>, Stop>
+        ensures { Gives (λ es. es.items) result (Ok (EntryLine number answer ∷ entries_of self.now notes.now)) }
+    {
+        match self.entries(alloc, Entry::Line { number, answer }, notes) {
+            Ok(entries) => Ok(entries),
+            Err(OutOfMemory) => Err(Stop::OutOfMemory),
+        }
+    }
+
+    /// A process says a message to another of this node.
+    fn send(&mut self, by: u32, to: u32, message: Message) -> Result<Vec<Note>, CommandError>
+        ensures does { MatchResult result (λ notes. command_of self.old.node by (Send (process_id self.old.node to) message) ≡ Ok (notes.items, self.new.node)) (λ e. Fails e (command_of self.old.node by (Send (process_id self.old.node to) message))) }
+        ensures err { IfErr result (λ e. KeepsBut self.old self.new e) }
+        ensures name { self.new.name ≡ self.old.name }
+    {
+        let to = self.node.id(to)?;
+        self.node.command(by, Command::Send { to, message })
+    }
+
+    /// What an event line does.
+    fn event(&mut self, alloc: Global, line: Line) -> Result<Vec<Entry>, Stop>
+        ensures { MatchResult result (λ es. event_of self.old line.number line.what ≡ Ok (es.items, self.new)) (λ e. Stops e (event_of self.old line.number line.what)) }
+    {
+        let number = line.number;
+        match line.what {
+            What::Node { .. } => Ok(Vec::new(alloc)),
+            What::Proc { .. } => {
+                let done = self.node.make();
+                self.answered(alloc, number, done)
+            }
+            What::Send { by, to, mark, body } => {
+                let done = self.send(by.counter, to.counter, Message { mark, body });
+                self.answered(alloc, number, done)
+            }
+            What::Recv { by, mark } => {
+                let done = self.node.command(by.counter, Command::Receive { mark });
+                self.answered(alloc, number, done)
+            }
+            What::End { by } => {
+                let done = self.node.command(by.counter, Command::End);
+                self.answered(alloc, number, done)
+            }
+        }
+    }
+}
+
+/// The world that a node's declaration makes; any other line makes none.
+fn declared(alloc: Global, what: What) -> Option<World>
+    ensures { result ≡ declared_by what }
+{
+    match what {
+        What::Node {
+            name,
+            address,
+            unique,
+        } => Some(World::new(alloc, name, address, unique)),
+        _ => None,
+    }
+}
+
+/// What a line does: the node's declaration makes the world, and each event line is a step of it.
+pub(crate) fn step(
+    alloc: Global,
+    world: &mut Option<World>,
+    line: Line,
+) -> Result<Vec<Entry>, Stop>
+    ensures { MatchResult result (λ es. world_step world.old line ≡ Ok (es.items, world.new)) (λ e. Stops e (world_step world.old line)) }
+{
+    if world.is_none() {
+        *world = declared(alloc, line.what);
+        return Ok(Vec::new(alloc));
+    }
+    match world {
+        Some(world) => world.event(alloc, line),
+        None => Ok(Vec::new(alloc)),
     }
 }

@@ -1,0 +1,4 @@
+pub mod Cuts
+pub mod Worlds
+pub mod Turns
+pub mod Pieces
