@@ -1,1 +1,2 @@
 mod OneNode
+mod Refused

@@ -1,5 +1,5 @@
 -- The logs, computed.
-use Rattle.std.specs.Prelude.{◌≡◌, List, [], Option, Some, None, codes}
+use Rattle.std.specs.Prelude.{◌≡◌, [], Some, None, codes}
 use Rattle.std.proofs.Common.{refl}
 use Rattle.std.specs.Fmt.{digits}
 use Rattle.hex.specs.Hex.{encode_with, decode_pairs}
@@ -9,8 +9,8 @@ use Rattle.ch_mail.specs.Queue.{first_of_mark}
 use Rattle.ch_model.specs.Fields.{field_of, last_of, node_name_of, digits_of, process_of, word_of, sent_mark_of, bytes_of, address_of, number_in}
 use Rattle.ch_model.specs.Lines.{declared_in, numbered, node_line, proc_line, send_line, recv_line, end_line, line_of_word, line_said}
 use Rattle.ch_model.specs.Node.{acting, target_of, growing, delivered, send_of, receive_of, finish_of, node_make}
-use Rattle.ch_model.specs.declared.refusal.BadKind.TheVariants.{Form, Number, Undeclared, Repeated, Late}
-use Rattle.ch_model.specs.declared.refusal.LineFault.TheVariants.{Bad, TooLong}
+use Rattle.ch_model.specs.declared.refusal.BadKind.TheVariants.{Form}
+use Rattle.ch_model.specs.declared.refusal.LineFault.TheVariants.{Bad}
 use Rattle.ch_examples.specs.Shown.{shown}
 use Rattle.ch_examples.specs.OneNode.{three_sends, three_sends_log, all_answers, all_answers_log}
 
