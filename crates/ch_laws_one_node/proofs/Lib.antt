@@ -1,2 +1,4 @@
 pub mod Reading
 pub mod Limits
+pub mod Appending
+pub mod Shows
