@@ -2,3 +2,4 @@ pub mod Reading
 pub mod Limits
 pub mod Appending
 pub mod Shows
+pub mod Calls
