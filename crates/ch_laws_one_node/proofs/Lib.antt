@@ -3,3 +3,4 @@ pub mod Limits
 pub mod Appending
 pub mod Shows
 pub mod Calls
+pub mod Events
