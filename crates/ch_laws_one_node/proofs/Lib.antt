@@ -4,3 +4,4 @@ pub mod Appending
 pub mod Shows
 pub mod Calls
 pub mod Events
+pub mod Law
