@@ -5,3 +5,4 @@ pub mod Shows
 pub mod Calls
 pub mod Events
 pub mod Law
+pub mod Streams
