@@ -1,5 +1,5 @@
 -- What one more entry adds to each count of a log, and the same of lists.
-use Rattle.std.specs.Prelude.{◌≡◌, ℕ, zero, suc, ◌+◌, ◌-◌, ◌≤◌, ◌<◌, Bool, true, false, not, cond, ◌&&◌, ◌||◌, List, [], ◌∷◌, ◌++◌, length, count_by, Option, Some, None, nat_eq, ◌==◌, slice_get, slice_set, if◌then◌else◌}
+use Rattle.std.specs.Prelude.{◌≡◌, ℕ, zero, suc, ◌+◌, Bool, true, false, cond, ◌&&◌, ◌||◌, List, [], ◌∷◌, ◌++◌, length, count_by, Option, Some, None, ◌==◌, slice_get, slice_set, if◌then◌else◌}
 use Rattle.std.specs.List.{list_any, fold}
 use Rattle.std.specs.Str.{bytes_eq}
 use Rattle.std.proofs.Common.{refl, ap, sym, ◌∙◌, subst, append_assoc, arith}
@@ -12,10 +12,10 @@ use Rattle.ch_ident.specs.declared.message.Message.{Message}
 use Rattle.ch_mail.specs.Queue.{first_that, after_passing}
 use Rattle.ch_model.specs.declared.name.ProcName.{ProcName}
 use Rattle.ch_model.specs.declared.entry.Entry.{Entry}
-use Rattle.ch_model.specs.Counts.{same_process, taken_in}
+use Rattle.ch_model.specs.Counts.{same_process}
 use Rattle.ch_model.specs.Delivery.{last_is}
 use Rattle.ch_model.specs.Mailboxes.{said_by, first_some, message_of, body_of_mark, entering, entered_after, entered}
-use Rattle.ch_model.specs.Lawful.{IsLawfulEntry, AreLawfulAfter}
+use Rattle.ch_model.specs.Lawful.{AreLawfulAfter}
 
 -- ---- tests and counts
 

@@ -1,12 +1,11 @@
 -- The node's calls as functions of what they look up, so that a proof can go by its cases.
-use Rattle.std.specs.Prelude.{◌≡◌, ℕ, suc, ◌+◌, Bool, true, false, cond, ◌&&◌, List, [], ◌∷◌, ◌++◌, length, Option, Some, None, Result, Ok, Err, nat_lt, ◌==◌, slice_get, slice_set, if◌then◌else◌}
+use Rattle.std.specs.Prelude.{◌≡◌, ℕ, ◌+◌, Bool, true, false, cond, ◌&&◌, List, [], ◌∷◌, ◌++◌, length, Option, Some, None, Result, Ok, Err, nat_lt, ◌==◌, slice_get, slice_set, if◌then◌else◌}
 use Rattle.std.specs.Option.{option_map}
 use Rattle.std.specs.Str.{bytes_eq}
 use Rattle.std.proofs.Common.{refl, ap, sym, ◌∙◌}
 use Rattle.std.proofs.lemmas.Bool.{eqb-true, and_parts}
 use Rattle.ch_ident.specs.declared.message.Message.{Message}
 use Rattle.ch_ident.specs.declared.reason.Reason.TheVariants.{Normal}
-use Rattle.ch_mail.specs.declared.life.Life.{Life}
 use Rattle.ch_mail.specs.declared.life.Life.TheVariants as lives
 use Rattle.ch_mail.specs.declared.error.MailError.{MailError}
 use Rattle.ch_mail.specs.declared.error.MailError.TheVariants as mails
@@ -18,11 +17,11 @@ use Rattle.ch_mail.specs.Mail.{newborn, there_or, waiting_in, appended, given_to
 use Rattle.ch_model.specs.declared.note.Note.{Note}
 use Rattle.ch_model.specs.declared.note.Note.TheVariants.{Made, Said, Got, Took, Over}
 use Rattle.ch_model.specs.declared.command.CommandError.{CommandError}
-use Rattle.ch_model.specs.declared.command.CommandError.TheVariants.{Unknown, Dead, Empty, OutOfMemory, Worn}
+use Rattle.ch_model.specs.declared.command.CommandError.TheVariants.{Unknown, Dead, Empty, Worn}
 use Rattle.ch_model.specs.States.{NodeState}
-use Rattle.ch_model.specs.Node.{◌>>=◌, mailed, acting, process_id, is_own, same_address, made_or_unknown, target_of, same_pair, next_index, with_said, growing, delivered, got_at_once, send_of, receive_of, finish_of, made_note, made_by, node_make}
+use Rattle.ch_model.specs.Node.{◌>>=◌, mailed, acting, process_id, is_own, made_or_unknown, target_of, next_index, with_said, growing, delivered, got_at_once, send_of, receive_of, finish_of, made_by, node_make}
 use Rattle.ch_laws_one_node.proofs.Appending.{equal_bytes, equal_numbers}
-use Rattle.ch_laws_one_node.proofs.Shows.{unborn, raise}
+use Rattle.ch_laws_one_node.proofs.Shows.{unborn}
 
 abbrev pub Done : Type 0
 Done = Result (List Note × NodeState) CommandError

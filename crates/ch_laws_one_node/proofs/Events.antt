@@ -1,5 +1,5 @@
 -- Each event line is answered as the log before it shows, and what it does is lawful.
-use Rattle.std.specs.Prelude.{◌≡◌, ℕ, suc, ◌+◌, ◌≤◌, ◌<◌, Bool, true, false, not, cond, ◌&&◌, List, [], ◌∷◌, ◌++◌, length, Option, Some, None, is_some, Result, Ok, Err, nat_lt, ◌==◌, slice_get, slice_set, if◌then◌else◌}
+use Rattle.std.specs.Prelude.{◌≡◌, ℕ, suc, ◌+◌, ◌≤◌, ◌<◌, Bool, true, false, not, List, [], ◌∷◌, ◌++◌, length, Option, Some, None, is_some, Ok, Err, nat_lt, slice_get, slice_set, if◌then◌else◌}
 use Rattle.std.specs.Str.{bytes_eq}
 use Rattle.std.proofs.Common.{refl, ap, sym, ◌∙◌, subst, append_assoc, arith}
 use Rattle.std.proofs.lemmas.List.{append-nil, length-append}
@@ -20,19 +20,18 @@ use Rattle.ch_model.specs.declared.entry.Verdict.{Verdict}
 use Rattle.ch_model.specs.declared.entry.Verdict.TheVariants as verdicts
 use Rattle.ch_model.specs.declared.line.What.{What}
 use Rattle.ch_model.specs.declared.line.What.TheVariants as lines
-use Rattle.ch_model.specs.declared.command.CommandError.{CommandError}
 use Rattle.ch_model.specs.declared.command.CommandError.TheVariants as errors
 use Rattle.ch_model.specs.States.{NodeState, World}
 use Rattle.ch_model.specs.Node.{process_id, next_index, with_said, send_of, receive_of, finish_of, node_make}
 use Rattle.ch_model.specs.World.{entries_of}
-use Rattle.ch_model.specs.Counts.{ends, gets, is_made_in, is_over_in, taken_in}
+use Rattle.ch_model.specs.Counts.{gets, is_made_in, is_over_in, taken_in}
 use Rattle.ch_model.specs.Life.{Lives}
 use Rattle.ch_model.specs.Delivery.{is_the_said, IsLawfulSaid, IsLawfulReceipt}
-use Rattle.ch_model.specs.Mailboxes.{message_of, said_by, first_some, entered, IsLawfulTake}
+use Rattle.ch_model.specs.Mailboxes.{message_of, said_by, first_some, entered}
 use Rattle.ch_model.specs.Answers.{answer_acting, answer_over, IsDone}
 use Rattle.ch_model.specs.Lawful.{AreLawfulAfter}
-use Rattle.ch_laws_one_node.proofs.Appending.{at, any_same, any_now, count_same, last_now, message_more, bodies, IsTaken, HasTaken, has_taken, place_more, place_set, length_set, length_more, first_left}
-use Rattle.ch_laws_one_node.proofs.Shows.{is_over_at, waiting, IsUndoomed, Mailed, Account, Pair, Shows, AllGot, put, raise, reheld, renumbered, regot, line_shows, line_got, unborn, made_shows, made_got, over_shows, over_got, the_said, said_shows, got_shows, took_shows, took_got, said_got_never, said_got_at_once}
+use Rattle.ch_laws_one_node.proofs.Appending.{at, any_now, count_same, last_now, message_more, bodies, IsTaken, HasTaken, has_taken, place_more, place_set, length_set, length_more, first_left}
+use Rattle.ch_laws_one_node.proofs.Shows.{is_over_at, Mailed, Account, Shows, AllGot, put, raise, reheld, renumbered, regot, line_shows, line_got, unborn, made_shows, made_got, over_shows, over_got, the_said, said_shows, got_shows, took_shows, took_got, said_got_never, said_got_at_once}
 use Rattle.ch_laws_one_node.proofs.Calls.{Done, to_process, to_target, by_live, by_sender, send_is, of_found, taking, receive_is, finishing, ending, finish_is, making, make_is, said_next}
 
 -- what the log shows is what the node holds
@@ -101,8 +100,8 @@ make_fine w before number h = subst (λ d. Fine w before number (lines.Proc w.na
   shown = reheld w.name (length w.node.mail + 1) (put (length w.node.mail) unborn (λ i. slice_get w.node.mail i)) (λ i. slice_get (w.node.mail ++ unborn ∷ []) i) (λ i j. next_index w.node.pairs (i, j)) (log ++ Made (at w.name (length w.node.mail)) ∷ [])
       (λ i. sym (place_more w.node.mail unborn i))
       (made_shows w.name (length w.node.mail) (λ i. slice_get w.node.mail i) (λ i j. next_index w.node.pairs (i, j)) log (slice_get_past w.node.mail (length w.node.mail) (same (length w.node.mail))) holds.shows) where
-    same : (n : ℕ) → n ≤ n
-    same n = omega arith
+        same : (n : ℕ) → n ≤ n
+        same n = omega arith
 
   by_room : (room : Bool) → Fine w before number (lines.Proc w.name) (making w.node room)
   by_room false = tt
@@ -135,8 +134,8 @@ end_fine w before number i h = subst (λ d. Fine w before number (lines.End (at 
     holds = record {
       shows = subst (λ n. Shows w.name n (λ k. slice_get (slice_set w.node.mail i (record p { life = lives.Over Normal })) k) (λ i j. next_index w.node.pairs (i, j)) (log ++ Over (at w.name i) Normal ∷ [])) (sym (length_set w.node.mail i (record p { life = lives.Over Normal })))
           (reheld w.name (length w.node.mail) (put i (record p { life = lives.Over Normal }) (λ k. slice_get w.node.mail k)) (λ k. slice_get (slice_set w.node.mail i (record p { life = lives.Over Normal })) k) (λ i j. next_index w.node.pairs (i, j)) (log ++ Over (at w.name i) Normal ∷ [])
-            (λ k. sym (place_set w.node.mail i p (record p { life = lives.Over Normal }) k is))
-            (over_shows w.name (length w.node.mail) (λ k. slice_get w.node.mail k) (λ i j. next_index w.node.pairs (i, j)) log i p Normal is holds.shows));
+          (λ k. sym (place_set w.node.mail i p (record p { life = lives.Over Normal }) k is))
+          (over_shows w.name (length w.node.mail) (λ k. slice_get w.node.mail k) (λ i j. next_index w.node.pairs (i, j)) log i p Normal is holds.shows));
       got = over_got w.name (λ i j. next_index w.node.pairs (i, j)) log (at w.name i) Normal holds.got;
     };
   }
@@ -159,16 +158,16 @@ nothing_left log p mark messages none m =
     let all : entered log p mark ≡ m.front = m.all ∙ ap (λ l. m.front ++ l) none ∙ append-nil m.front in
     let count : length (entered log p mark) ≡ taken_in log p mark = ap (λ l. length l) all ∙ sym m.taken in
     ap (λ b. if b then verdicts.Ok else verdicts.Empty) (le-ltb (taken_in log p mark) (length (entered log p mark)) (at_most (length (entered log p mark)) (taken_in log p mark) count)) where
-  at_most : (n k : ℕ) → n ≡ k → n ≤ k
-  at_most n k e = omega arith
+      at_most : (n k : ℕ) → n ≡ k → n ≤ k
+      at_most n k e = omega arith
 
 something_left : (log : List Entry) (p : ProcName) (mark : List ℕ) (messages : List Message) (body : List ℕ) (more : List (List ℕ)) → bodies mark messages ≡ body ∷ more → Mailed log p mark messages → answer_taking log p mark ≡ verdicts.Ok
 something_left log p mark messages body more some m =
     let all : entered log p mark ≡ m.front ++ body ∷ more = m.all ∙ ap (λ l. m.front ++ l) some in
     let count : length (entered log p mark) ≡ length m.front + length (body ∷ more) = ap (λ l. length l) all ∙ length-append m.front (body ∷ more) in
     ap (λ b. if b then verdicts.Ok else verdicts.Empty) (lt-ltb (taken_in log p mark) (length (entered log p mark)) (less (taken_in log p mark) (length m.front) (length (entered log p mark)) (length more) m.taken count)) where
-  less : (t f n k : ℕ) → t ≡ f → n ≡ f + suc k → t < n
-  less t f n k e c = omega arith
+      less : (t f n k : ℕ) → t ≡ f → n ≡ f + suc k → t < n
+      less t f n k e c = omega arith
 
 first_is_left : (log : List Entry) (p : ProcName) (mark : List ℕ) (messages : List Message) (body : List ℕ) (more : List (List ℕ)) → bodies mark messages ≡ body ∷ more → Mailed log p mark messages → slice_get (entered log p mark) (taken_in log p mark) ≡ Some body
 first_is_left log p mark messages body more some m = ap (λ l. slice_get l (taken_in log p mark)) (m.all ∙ ap (λ l. m.front ++ l) some) ∙ ap (λ n. slice_get (m.front ++ body ∷ more) n) m.taken ∙ first_left m.front body more
@@ -188,15 +187,18 @@ receive_fine w before number i mark h = subst (λ d. Fine w before number (lines
     answer = live_acting before (at w.name i) (answer_taking before (at w.name i) mark) p live (account_at w.name w.node before i (Some p) is h)
         ∙ something_left before (at w.name i) mark p.mailbox found.0.body (bodies mark found.1) taken.first ((account_at w.name w.node before i (Some p) is h).mailbox mark);
     done = ((refl, taken.of_mark), tt, refl);
-    lawful = (record {
-      living = alive_shows log (at w.name i) p (not_over log (at w.name i) p live account) account;
-      first_left = first_is_left log (at w.name i) found.0.mark p.mailbox found.0.body (bodies found.0.mark found.1) of_its_mark.first (account.mailbox found.0.mark);
-    }, tt);
+    lawful = (
+      record {
+        living = alive_shows log (at w.name i) p (not_over log (at w.name i) p live account) account;
+        first_left = first_is_left log (at w.name i) found.0.mark p.mailbox found.0.body (bodies found.0.mark found.1) of_its_mark.first (account.mailbox found.0.mark);
+      },
+      tt,
+    );
     holds = record {
       shows = subst (λ n. Shows w.name n (λ k. slice_get (slice_set w.node.mail i (record p { mailbox = found.1 })) k) (λ i j. next_index w.node.pairs (i, j)) (log ++ Took (at w.name i) found.0.mark found.0.body ∷ [])) (sym (length_set w.node.mail i (record p { mailbox = found.1 })))
           (reheld w.name (length w.node.mail) (put i (record p { mailbox = found.1 }) (λ k. slice_get w.node.mail k)) (λ k. slice_get (slice_set w.node.mail i (record p { mailbox = found.1 })) k) (λ i j. next_index w.node.pairs (i, j)) (log ++ Took (at w.name i) found.0.mark found.0.body ∷ [])
-            (λ k. sym (place_set w.node.mail i p (record p { mailbox = found.1 }) k is))
-            (took_shows w.name (length w.node.mail) (λ k. slice_get w.node.mail k) (λ i j. next_index w.node.pairs (i, j)) log i p found.0 found.1 is of_its_mark holds.shows));
+          (λ k. sym (place_set w.node.mail i p (record p { mailbox = found.1 }) k is))
+          (took_shows w.name (length w.node.mail) (λ k. slice_get w.node.mail k) (λ i j. next_index w.node.pairs (i, j)) log i p found.0 found.1 is of_its_mark holds.shows));
       got = took_got w.name (λ i j. next_index w.node.pairs (i, j)) log (at w.name i) found.0.mark found.0.body holds.got;
     };
   } where
@@ -288,9 +290,9 @@ send_fine w before number i j m h = subst (λ d. Fine w before number line d) (s
     holds = subst (λ l. Holds w.name (record w.node { mail = slice_set w.node.mail j longer; pairs = with_said w.node.pairs (i, j) (next i j + 1) }) l) (append_assoc log (said ∷ []) (got ∷ [])) (record {
       shows = renumbered w.name (length (slice_set w.node.mail j longer)) (λ k. slice_get (slice_set w.node.mail j longer) k) (raise i j next) after ((log ++ said ∷ []) ++ got ∷ []) raised
           (subst (λ n. Shows w.name n (λ k. slice_get (slice_set w.node.mail j longer) k) (raise i j next) ((log ++ said ∷ []) ++ got ∷ [])) (sym (length_set w.node.mail j longer))
-            (reheld w.name (length w.node.mail) (put j longer held) (λ k. slice_get (slice_set w.node.mail j longer) k) (raise i j next) ((log ++ said ∷ []) ++ got ∷ [])
-              (λ k. sym (place_set w.node.mail j q longer k there))
-              (got_shows w.name (length w.node.mail) held (raise i j next) (log ++ said ∷ []) i j (next i j) q m there the_message shown)));
+          (reheld w.name (length w.node.mail) (put j longer held) (λ k. slice_get (slice_set w.node.mail j longer) k) (raise i j next) ((log ++ said ∷ []) ++ got ∷ [])
+          (λ k. sym (place_set w.node.mail j q longer k there))
+          (got_shows w.name (length w.node.mail) held (raise i j next) (log ++ said ∷ []) i j (next i j) q m there the_message shown)));
       got = regot w.name (raise i j next) after ((log ++ said ∷ []) ++ got ∷ []) raised (said_got_at_once w.name next log i j (next i j) m.mark m.body holds.got);
     });
   } where

@@ -1,10 +1,9 @@
 -- The log of a journal of one node is lawful, line by line.
-use Rattle.std.specs.Prelude.{◌≡◌, ℕ, List, [], ◌∷◌, ◌++◌, Option, Some, None, Result, Ok, Err}
+use Rattle.std.specs.Prelude.{◌≡◌, ℕ, List, [], ◌∷◌, ◌++◌, Some, Result, Ok, Err}
 use Rattle.std.proofs.Common.{refl, ap, sym, ◌∙◌, subst, append_assoc}
 use Rattle.std.proofs.lemmas.List.{append-nil}
 use Rattle.ch_base.specs.AddressValues.{AddressValue}
 use Rattle.ch_base.specs.declared.memory.Stop.{Stop}
-use Rattle.ch_ident.specs.declared.message.Message.{Message}
 use Rattle.ch_model.specs.declared.name.ProcName.{ProcName}
 use Rattle.ch_model.specs.declared.note.Note.{Note}
 use Rattle.ch_model.specs.declared.entry.Entry.{Entry}
@@ -77,8 +76,8 @@ steps w before number (Node name address unique) done of h is = absurd of
 steps w before number (Proc name) done of h is = steps_from w before number (Proc name) (node_make w.node) done h (subst (λ n. Fine w before number (Proc n) (node_make w.node)) (sym of) (make_fine w before number h)) is
 steps w before number (Send by to mark body) done of h is = steps_from w before number (Send by to mark body) given done h
     (subst (λ p. Fine w before number (Send p to mark body) given) (named by w.name of.0) (subst (λ p. Fine w before number (Send (at w.name by.counter) p mark body) given) (named to w.name of.1) (send_fine w before number by.counter to.counter (record { mark = mark; body = body }) h))) is where
-  given : Done
-  given = send_of w.node by.counter (process_id w.node to.counter) (record { mark = mark; body = body })
+      given : Done
+      given = send_of w.node by.counter (process_id w.node to.counter) (record { mark = mark; body = body })
 steps w before number (Recv by mark) done of h is = steps_from w before number (Recv by mark) (receive_of w.node by.counter mark) done h (subst (λ p. Fine w before number (Recv p mark) (receive_of w.node by.counter mark)) (named by w.name of) (receive_fine w before number by.counter mark h)) is
 steps w before number (End by) done of h is = steps_from w before number (End by) (finish_of w.node by.counter) done h (subst (λ p. Fine w before number (End p) (finish_of w.node by.counter)) (named by w.name of) (end_fine w before number by.counter h)) is
 

@@ -1,18 +1,19 @@
 -- What is read fits what was told before: one declaration, and then events of its node.
 use Rattle.std.specs.Prelude.{◌≡◌, ℕ, ◌+◌, ◌-◌, Bool, true, false, List, [], ◌∷◌, Option, Some, None, Result, Ok, Err, is_some, not, if◌then◌else◌, codes}
-use Rattle.std.proofs.Common.{refl, ap, sym, ◌∙◌, subst}
+use Rattle.std.proofs.Common.{refl, sym, subst}
 use Rattle.std.specs.Str.{bytes_eq}
 use Rattle.std.proofs.lemmas.Slice.Eq.{bytes_eq-Decides}
 use Rattle.ch_model.specs.declared.refusal.BadKind.{BadKind}
 use Rattle.ch_model.specs.declared.refusal.BadKind.TheVariants.{Form, Undeclared}
-use Rattle.ch_model.specs.declared.refusal.LineFault.TheVariants.{Bad, TooLong}
+use Rattle.ch_model.specs.declared.refusal.LineFault.TheVariants.{TooLong}
 use Rattle.ch_model.specs.declared.line.Line.{Line}
 use Rattle.ch_model.specs.declared.line.What.{What}
 use Rattle.ch_model.specs.declared.line.What.TheVariants.{Node, Proc, Send, Recv, End}
 use Rattle.ch_model.specs.Fields.{◌>>=◌, need, field_of, last_of, node_name_of, digits_of, process_of, word_of, sent_mark_of, bytes_of, address_of, number_in}
 use Rattle.ch_model.specs.Lines.{Told, untold, is_declared, declared_in, numbered, node_line, proc_line, send_line, recv_line, end_line, line_of_word, line_said, told_after, said_and_told, read_line, header}
-use Rattle.ch_model.specs.Journal.{Scan, stopped, line_before, is_too_long, size_of, scan_from, scan_lines, raw_lines, longest_journal}
-use Rattle.ch_model.specs.Lawful.{IsOfNode, AreOfNode, IsOfOneNode}
+use Rattle.ch_model.specs.Journal.{Scan, stopped, is_too_long, size_of, scan_from, scan_lines, longest_journal}
+use Rattle.ch_model.specs.Lawful.{AreOfNode, IsOfOneNode}
+use Rattle.ch_laws_one_node.proofs.Scans.{after_read, scan_is}
 
 abbrev pub OfValue : {A : Type 0} → (A → Type 0) → Result A BadKind → Type 0
 OfValue P (Ok x) = P x
@@ -171,15 +172,15 @@ none_from (Some node) = tt
 
 pub lines_fit : (told : Told) (number room : ℕ) (raw : List (List ℕ × Bool)) → AreFrom told.node (scan_from told number room raw).lines
 lines_fit told number room [] = none_from told.node
-lines_fit told number room (line ∷ raw) = by_long (is_too_long room line) (λ after. lines_fit after (number + 1) (room - size_of line) raw) where
-  by_read : (r : Result (Option What × Told) BadKind) → Gives (Reads told) r → ((after : Told) → AreFrom after.node (scan_from after (number + 1) (room - size_of line) raw).lines) → AreFrom told.node (elim r as (λ x. Scan) [ | Err kind ↦ stopped number (Bad kind) | Ok read ↦ line_before number read.0 (scan_from read.1 (number + 1) (room - size_of line) raw) ]).lines
-  by_read (Err kind) g rest = none_from told.node
-  by_read (Ok (None, after)) g rest = subst (λ n. AreFrom n (scan_from after (number + 1) (room - size_of line) raw).lines) g.given (rest after)
-  by_read (Ok (Some what, after)) g rest = one_more told told.node refl number what _ g.given.0 (subst (λ (t : Told). AreFrom t.node (scan_from after (number + 1) (room - size_of line) raw).lines) g.given.1 (rest after))
+lines_fit told number room (line ∷ raw) = subst (λ s. AreFrom told.node s.lines) (sym (scan_is told number room line raw)) (by_long (is_too_long room line) (read_line told line.0) (reads told line.0) (λ after. lines_fit after (number + 1) (room - size_of line) raw)) where
+  after : Told → Scan
+  after told = scan_from told (number + 1) (room - size_of line) raw
 
-  by_long : (b : Bool) → ((after : Told) → AreFrom after.node (scan_from after (number + 1) (room - size_of line) raw).lines) → AreFrom told.node (if b then stopped number TooLong else (elim (read_line told line.0) as (λ x. Scan) [ | Err kind ↦ stopped number (Bad kind) | Ok read ↦ line_before number read.0 (scan_from read.1 (number + 1) (room - size_of line) raw) ])).lines
-  by_long true rest = none_from told.node
-  by_long false rest = by_read (read_line told line.0) (reads told line.0) rest
+  by_long : (b : Bool) (r : Result (Option What × Told) BadKind) → Gives (Reads told) r → ((t : Told) → AreFrom t.node (after t).lines) → AreFrom told.node (if b then stopped number TooLong else after_read number (room - size_of line) raw r).lines
+  by_long true r g rest = none_from told.node
+  by_long false (Err kind) g rest = none_from told.node
+  by_long false (Ok (None, t)) g rest = subst (λ n. AreFrom n (after t).lines) g.given (rest t)
+  by_long false (Ok (Some what, t)) g rest = one_more told told.node refl number what (after t).lines g.given.0 (subst (λ (x : Told). AreFrom x.node (after t).lines) g.given.1 (rest t))
 
 pub of_one_node : (raw : List (List ℕ × Bool)) → IsOfOneNode (scan_lines raw).lines
 of_one_node [] = tt
