@@ -1,0 +1,2 @@
+mod OneNode
+mod Refused

@@ -1,0 +1,9 @@
+pub mod Scans
+pub mod Reading
+pub mod Limits
+pub mod Places
+pub mod Appending
+pub mod Shows
+pub mod Calls
+pub mod Events
+pub mod Law
