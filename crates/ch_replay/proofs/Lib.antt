@@ -2,3 +2,5 @@ pub mod Cuts
 pub mod Worlds
 pub mod Turns
 pub mod Pieces
+pub mod Replays
+pub mod Tops

@@ -42,6 +42,7 @@ impl From<AllocError> for Untaken {
 /// All bytes of the source, or one more than a journal may have.
 pub(crate) fn take_journal<S: Source>(alloc: Global, source: &mut S) -> Result<Vec<u8>, Untaken>
     ensures taken { IfOk result (λ v. IsIntake (S.left source.old) (S.left source.new) v.items) }
+    ensures small { IfOk result (λ v. length v.items ≤ 16777217) }
     ensures failed { IsErrOf result untaken.Fault → Rose (S.faults source.old) (S.faults source.new) }
     ensures counted { S.faults source.old ≤ S.faults source.new }
 {

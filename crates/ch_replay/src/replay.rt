@@ -28,6 +28,7 @@ fn first_line(text: &[u8]) -> (&[u8], bool, &[u8])
     requires { 0 < length text.now }
     ensures lines { raw_lines text.now ≡ (result.0.now, result.1) ∷ raw_lines result.2.now }
     ensures size { length text.now ≡ size_of (result.0.now, result.1) + length result.2.now }
+    ensures shorter { length result.2.now < length text.now }
 {
     match split_at_byte(b'\n', text) {
         None => (text, false, &[]),
@@ -98,14 +99,18 @@ pub(crate) fn log_journal(alloc: Global, journal: &[u8]) -> Result<Logged, Stop>
                 fault: Some((number, LineFault::TooLong)),
             });
         }
-        if let Some(kind) = turn(alloc, &mut reading, &mut world, line, &mut text)? {
-            return Ok(Logged {
-                text,
-                fault: Some((number, LineFault::Bad(kind))),
-            });
+        match turn(alloc, &mut reading, &mut world, line, &mut text)? {
+            None => {
+                room -= size;
+                rest = after;
+            }
+            Some(kind) => {
+                return Ok(Logged {
+                    text,
+                    fault: Some((number, LineFault::Bad(kind))),
+                });
+            }
         }
-        room -= size;
-        rest = after;
     }
     Ok(Logged { text, fault: None })
 }
