@@ -1,2 +1,3 @@
 mod OneNode
 mod Refused
+mod Unlawful

@@ -1,3 +1,4 @@
 pub mod Shown
 pub mod OneNode
 pub mod Refused
+pub mod Unlawful

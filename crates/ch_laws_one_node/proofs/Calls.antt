@@ -21,7 +21,7 @@ use Rattle.ch_model.specs.declared.command.CommandError.TheVariants.{Unknown, De
 use Rattle.ch_model.specs.States.{NodeState}
 use Rattle.ch_model.specs.Node.{◌>>=◌, mailed, acting, process_id, is_own, made_or_unknown, target_of, next_index, with_said, growing, delivered, got_at_once, send_of, receive_of, finish_of, made_by, node_make}
 use Rattle.ch_laws_one_node.proofs.Appending.{equal_bytes, equal_numbers}
-use Rattle.ch_laws_one_node.proofs.Shows.{unborn}
+use Rattle.ch_laws_one_node.proofs.Shows.{new_process}
 
 abbrev pub Done : Type 0
 Done = Result (List Note × NodeState) CommandError
@@ -129,12 +129,12 @@ finish_is node i = by_cases (slice_get node.mail i) where
 -- ---- making
 
 abbrev pub making : NodeState → Bool → Done
-making node room = if room then Ok (Made (process_id node (length node.mail)) ∷ [], record node { mail = node.mail ++ unborn ∷ [] }) else Err Worn
+making node room = if room then Ok (Made (process_id node (length node.mail)) ∷ [], record node { mail = node.mail ++ new_process ∷ [] }) else Err Worn
 
 pub make_is : (node : NodeState) → node_make node ≡ making node (nat_lt (length node.mail) last_u32)
 unfolding node_make make_of newborn
 make_is node = by_test (nat_lt (length node.mail) last_u32) where
-  by_test : (b : Bool) → made_by node (if b then Ok (length node.mail, node.mail ++ unborn ∷ []) else Err Rattle.ch_base.specs.declared.memory.Stop.TheVariants.Worn) ≡ making node b
+  by_test : (b : Bool) → made_by node (if b then Ok (length node.mail, node.mail ++ new_process ∷ []) else Err Rattle.ch_base.specs.declared.memory.Stop.TheVariants.Worn) ≡ making node b
   by_test true = refl
   by_test false = refl
 

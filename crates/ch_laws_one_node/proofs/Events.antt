@@ -31,7 +31,7 @@ use Rattle.ch_model.specs.Mailboxes.{message_of, said_by, first_some, entered}
 use Rattle.ch_model.specs.Answers.{answer_acting, answer_over, IsDone}
 use Rattle.ch_model.specs.Lawful.{AreLawfulAfter}
 use Rattle.ch_laws_one_node.proofs.Appending.{at, any_now, count_same, last_now, message_more, bodies, IsTaken, HasTaken, has_taken, place_more, place_set, length_set, length_more, first_left}
-use Rattle.ch_laws_one_node.proofs.Shows.{is_over_at, Mailed, Account, Shows, AllGot, put, raise, reheld, renumbered, regot, line_shows, line_got, unborn, made_shows, made_got, over_shows, over_got, the_said, said_shows, got_shows, took_shows, took_got, said_got_never, said_got_at_once}
+use Rattle.ch_laws_one_node.proofs.Shows.{is_over_at, Mailed, Account, Shows, AllGot, put, raise, reheld, renumbered, regot, line_shows, line_got, new_process, made_shows, made_got, over_shows, over_got, the_said, said_shows, got_shows, took_shows, took_got, said_got_never, said_got_at_once}
 use Rattle.ch_laws_one_node.proofs.Calls.{Done, to_process, to_target, by_live, by_sender, send_is, of_found, taking, receive_is, finishing, ending, finish_is, making, make_is, said_next}
 
 -- what the log shows is what the node holds
@@ -96,9 +96,9 @@ make_fine w before number h = subst (λ d. Fine w before number (lines.Proc w.na
   holds : Holds w.name w.node log
   holds = marked_holds w.name w.node before number verdicts.Ok h
 
-  shown : Shows w.name (length w.node.mail + 1) (λ i. slice_get (w.node.mail ++ unborn ∷ []) i) (λ i j. next_index w.node.pairs (i, j)) (log ++ Made (at w.name (length w.node.mail)) ∷ [])
-  shown = reheld w.name (length w.node.mail + 1) (put (length w.node.mail) unborn (λ i. slice_get w.node.mail i)) (λ i. slice_get (w.node.mail ++ unborn ∷ []) i) (λ i j. next_index w.node.pairs (i, j)) (log ++ Made (at w.name (length w.node.mail)) ∷ [])
-      (λ i. sym (place_more w.node.mail unborn i))
+  shown : Shows w.name (length w.node.mail + 1) (λ i. slice_get (w.node.mail ++ new_process ∷ []) i) (λ i j. next_index w.node.pairs (i, j)) (log ++ Made (at w.name (length w.node.mail)) ∷ [])
+  shown = reheld w.name (length w.node.mail + 1) (put (length w.node.mail) new_process (λ i. slice_get w.node.mail i)) (λ i. slice_get (w.node.mail ++ new_process ∷ []) i) (λ i j. next_index w.node.pairs (i, j)) (log ++ Made (at w.name (length w.node.mail)) ∷ [])
+      (λ i. sym (place_more w.node.mail new_process i))
       (made_shows w.name (length w.node.mail) (λ i. slice_get w.node.mail i) (λ i j. next_index w.node.pairs (i, j)) log (slice_get_past w.node.mail (length w.node.mail) (same (length w.node.mail))) holds.shows) where
         same : (n : ℕ) → n ≤ n
         same n = omega arith
@@ -110,7 +110,7 @@ make_fine w before number h = subst (λ d. Fine w before number (lines.Proc w.na
     done = (refl, tt, refl);
     lawful = (sym holds.shows.count_is, tt);
     holds = record {
-      shows = subst (λ n. Shows w.name n (λ i. slice_get (w.node.mail ++ unborn ∷ []) i) (λ i j. next_index w.node.pairs (i, j)) (log ++ Made (at w.name (length w.node.mail)) ∷ [])) (sym (length_more w.node.mail unborn)) shown;
+      shows = subst (λ n. Shows w.name n (λ i. slice_get (w.node.mail ++ new_process ∷ []) i) (λ i j. next_index w.node.pairs (i, j)) (log ++ Made (at w.name (length w.node.mail)) ∷ [])) (sym (length_more w.node.mail new_process)) shown;
       got = made_got w.name (λ i j. next_index w.node.pairs (i, j)) log (at w.name (length w.node.mail)) holds.got;
     };
   }
@@ -252,9 +252,6 @@ send_fine w before number i j m h = subst (λ d. Fine w before number line d) (s
 
   shown : Shows w.name (length w.node.mail) held (raise i j next) (log ++ said ∷ [])
   shown = said_shows w.name (length w.node.mail) held next log i j m.mark m.body holds.shows
-
-  index_is : next i j ≡ next i j
-  index_is = refl
 
   is_said : (p : Process) → slice_get w.node.mail i ≡ Some p → is_live p.life ≡ true → IsLawfulSaid log (at w.name i) (at w.name j) 0 (next i j)
   is_said p is live = record {

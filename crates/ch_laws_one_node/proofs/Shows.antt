@@ -133,13 +133,14 @@ line_shows node count held next log number answer s = record {
 pub line_got : (node : List ℕ) (next : ℕ → ℕ → ℕ) (log : List Entry) (number : ℕ) (answer : Verdict) → AllGot node next log → AllGot node next (log ++ Line number answer ∷ [])
 line_got node next log number answer s = got_same node next log (Line number answer) (λ p. refl) (λ p q. refl) s
 
-abbrev pub unborn : Process
-unborn = record { life = lives.Live; mailbox = []; ports = [] }
+-- a process that was just made
+abbrev pub new_process : Process
+new_process = record { life = lives.Live; mailbox = []; ports = [] }
 
-pub made_shows : (node : List ℕ) (count : ℕ) (held : ℕ → Option Process) (next : ℕ → ℕ → ℕ) (log : List Entry) → held count ≡ None → Shows node count held next log → Shows node (count + 1) (put count unborn held) next (log ++ Made (at node count) ∷ [])
+pub made_shows : (node : List ℕ) (count : ℕ) (held : ℕ → Option Process) (next : ℕ → ℕ → ℕ) (log : List Entry) → held count ≡ None → Shows node count held next log → Shows node (count + 1) (put count new_process held) next (log ++ Made (at node count) ∷ [])
 made_shows node count held next log none s = record {
   count_is = count_next (makes_on node) log (Made (at node count)) (equal_bytes node) ∙ ap (λ k. k + 1) s.count_is;
-  accounts = placed node (log ++ Made (at node count) ∷ []) count unborn held (record {
+  accounts = placed node (log ++ Made (at node count) ∷ []) count new_process held (record {
     made = any_now (makes (at node count)) log (Made (at node count)) (same_self node count);
     over = any_same (ends (at node count)) log (Made (at node count)) refl ∙ (s.accounts count).over ∙ ap is_over_at none;
     undoomed = refl;

@@ -13,8 +13,8 @@ ghost use Rattle.ch_model.specs.Lawful.{IsOfOneNode, IsLawful};
 ghost use Rattle.ch_model.specs.World.{log_of};
 ghost use Rattle.ch_laws_one_node.specs.Places.{AreNumbered, IsFirstFault};
 
-/// What is read as a journal is one declaration of a node, and then event lines that name that
-/// node alone.
+/// What is read as a journal is no line, or one declaration of a node and then event lines that name
+/// that node alone.
 pub fn readable()
     ensures { (bytes : List ℕ) → IsOfOneNode (journal_of bytes) }
 {}
