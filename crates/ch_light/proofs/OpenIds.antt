@@ -193,26 +193,22 @@ same_ok m n r p q = cc
 unequal_test : (i n : ℕ) → nat_eq i n ≡ false → i ≢ n
 unequal_test i n h e = grind (arith, nat_tests)
 
-free_none : (table : List Connection) (number i : ℕ) → place_of table number ≡ None → conn_of table i ≡ Ok number → ⊥
-unfolding id_of
-free_none table number i free at = absent table number i (ap (option_map (λ place. FIRST_ID + place)) free) at
-
-one_by : (table new : List Connection) (number id : ℕ) → OneEach table → place_of table number ≡ None → ChangesOnly table new id (Ok number) → (n i j : ℕ) → conn_of new i ≡ Ok n → conn_of new j ≡ Ok n → (a b : Bool) → nat_eq i id ≡ a → nat_eq j id ≡ b → i ≡ j
+one_by : (table new : List Connection) (number id : ℕ) → OneEach table → id_of table number ≡ None → ChangesOnly table new id (Ok number) → (n i j : ℕ) → conn_of new i ≡ Ok n → conn_of new j ≡ Ok n → (a b : Bool) → nat_eq i id ≡ a → nat_eq j id ≡ b → i ≡ j
 one_by table new number id one free changes n i j hi hj true true a b = equal_test _ _ a ∙ sym (equal_test _ _ b)
 one_by table new number id one free changes n i j hi hj true false a b =
     let at : conn_of new i ≡ Ok number = (let P : ℕ → Type 0 = λ k. conn_of new k ≡ Ok number in subst P (sym (equal_test _ _ a)) changes.here) in
     let same : n ≡ number = same_ok _ _ _ hi at in
     let was : conn_of table j ≡ Ok n = sym (changes.others j (unequal_test _ _ b)) ∙ hj in
-    absurd (free_none table number j free (was ∙ ap Ok same))
+    absurd (absent table number j free (was ∙ ap Ok same))
 one_by table new number id one free changes n i j hi hj false true a b =
     let at : conn_of new j ≡ Ok number = (let P : ℕ → Type 0 = λ k. conn_of new k ≡ Ok number in subst P (sym (equal_test _ _ b)) changes.here) in
     let same : n ≡ number = same_ok _ _ _ hj at in
     let was : conn_of table i ≡ Ok n = sym (changes.others i (unequal_test _ _ a)) ∙ hi in
-    absurd (free_none table number i free (was ∙ ap Ok same))
+    absurd (absent table number i free (was ∙ ap Ok same))
 one_by table new number id one free changes n i j hi hj false false a b =
     one n i j (sym (changes.others i (unequal_test _ _ a)) ∙ hi) (sym (changes.others j (unequal_test _ _ b)) ∙ hj)
 
-pub one_each_given : (table new : List Connection) (number id : ℕ) → OneEach table → place_of table number ≡ None → ChangesOnly table new id (Ok number) → OneEach new
+pub one_each_given : (table new : List Connection) (number id : ℕ) → OneEach table → id_of table number ≡ None → ChangesOnly table new id (Ok number) → OneEach new
 one_each_given table new number id one free changes n i j hi hj = one_by table new number id one free changes n i j hi hj (nat_eq i id) (nat_eq j id) refl refl
 
 still : (table new : List Connection) (id n i : ℕ) → ChangesOnly table new id (Err NotOpen) → conn_of new i ≡ Ok n → (a : Bool) → nat_eq i id ≡ a → conn_of table i ≡ Ok n

@@ -22,13 +22,13 @@ is_open_as number c = c.is_open && (c.number == number)
 abbrev pub place_of : List Connection → ℕ → Option ℕ
 place_of table number = position (is_open_as number) table
 
--- no connection of this number is open
-abbrev pub IsFree : List Connection → ℕ → Type 0
-IsFree table number = place_of table number ≡ None
-
 -- the id of the open connection of this number
 unfoldable pub id_of : List Connection → ℕ → Option ℕ
 id_of table number = option_map (λ place. FIRST_ID + place) (place_of table number)
+
+-- no connection of this number is open
+abbrev pub IsFree : List Connection → ℕ → Type 0
+IsFree table number = id_of table number ≡ None
 
 -- the next id goes to this connection, unless all are spent
 unfoldable pub give_of : List Connection → ℕ → Result (ℕ × List Connection) LightError

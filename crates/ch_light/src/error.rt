@@ -5,6 +5,7 @@
 ghost use Rattle.std.specs.Prelude.{◌≡◌};
 ghost use Rattle.ch_light.specs.declared.error.LightError.TheVariants.{OutOfMemory};
 
+use ch_base::OutOfMemory as NoMemory;
 use std::alloc::AllocFailed;
 use std::convert::From;
 
@@ -25,6 +26,14 @@ impl<T: Drop> From<AllocFailed<T>> for LightError {
     ghost from_gives = { λ _ e. e ≡ OutOfMemory };
 
     fn from(_: AllocFailed<T>) -> Self {
+        LightError::OutOfMemory
+    }
+}
+
+impl From<NoMemory> for LightError {
+    ghost from_gives = { λ _ e. e ≡ OutOfMemory };
+
+    fn from(_: NoMemory) -> Self {
         LightError::OutOfMemory
     }
 }

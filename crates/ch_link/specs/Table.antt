@@ -1,6 +1,6 @@
 -- The link table: what a state and an input lead to, and the act that goes with it.
 use Rattle.std.specs.Prelude.{Bool, true, false}
-use Rattle.ch_base.specs.declared.Why.TheVariants.{Disconnect, NodeDown}
+use Rattle.ch_base.specs.declared.event.Why.TheVariants.{Disconnect, NodeDown}
 use Rattle.ch_link.specs.declared.LinkState.{LinkState}
 use Rattle.ch_link.specs.declared.LinkState.TheVariants.{Idle, Dialing, AwaitOther, Up}
 use Rattle.ch_link.specs.declared.LinkIn.{LinkIn}
