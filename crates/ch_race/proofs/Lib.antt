@@ -1,0 +1,11 @@
+pub mod Opened
+pub mod Frame
+pub mod Names
+pub mod Words
+pub mod WordMoves
+pub mod Probes
+pub mod ProbeMoves
+pub mod Facts
+pub mod Still
+pub mod QuietMoves
+pub mod Measures
