@@ -7,7 +7,7 @@ use Rattle.ch_race.specs.Pair.{Side, Lesser, Greater, other, OEnd, OPending, OAs
 use Rattle.ch_race.specs.Moves.{IsStill, IsOpen_o, IsOpen_t}
 use Rattle.ch_race.specs.Naming.{Not, Asks, IsUp, role, role_o, role_t, Naming}
 use Rattle.ch_race.specs.Words.{Words, Worded, In_o, In_t, UnlessCut, Phase}
-use Rattle.ch_race.specs.Quiet.{IsAsked, OpenDial, UpByG, Fits, QuietSock, Dialed, Joined, Quiet}
+use Rattle.ch_race.specs.Quiet.{IsAsked, OpenDial, UpByGreater, Fits, QuietSock, Dialed, Joined, Quiet}
 use Rattle.ch_race.proofs.Frame.{by_test, same_number, self_number, put_here, put_there}
 use Rattle.ch_race.proofs.Names.{IsSideOf, Own, Peer, side_of}
 
@@ -92,7 +92,7 @@ dial_put (Dialing g) p i s f h = by_test {P = IsAsked ((put i s p).sock g).t} (n
     (f (ap Dialing (sym (same_number i g e))) (subst (λ (m : ℕ). IsAsked (p.sock m).t) (sym (same_number i g e)) h))))
     (λ e. subst (λ (z : Sock). IsAsked z.t) (sym (put_there i g s p e)) h)
 
-pub joined_put : (k : LinkState) (p : Pair) (i : ℕ) (s : Sock) → ((b : Bool) → k ≡ Up i b → (p.sock i).opener ≡ Greater → s.opener ≡ Greater) → UpByG k p.sock → UpByG k (put i s p).sock
+pub joined_put : (k : LinkState) (p : Pair) (i : ℕ) (s : Sock) → ((b : Bool) → k ≡ Up i b → (p.sock i).opener ≡ Greater → s.opener ≡ Greater) → UpByGreater k p.sock → UpByGreater k (put i s p).sock
 joined_put Idle p i s f h = h
 joined_put AwaitOther p i s f h = h
 joined_put (Dialing d) p i s f h = h
@@ -105,7 +105,7 @@ pub dial_point : (x : Side) (k : LinkState) (p : Pair) (f : ℕ → Sock) → (x
 dial_point Lesser k p f g h = h
 dial_point Greater k p f g h = g refl h
 
-pub joined_point : (x : Side) (k : LinkState) (p : Pair) (f : ℕ → Sock) → (x ≡ Lesser → UpByG (p.link Lesser) f → UpByG k f) → UpByG (p.link Lesser) f → UpByG ((point x k p).link Lesser) f
+pub joined_point : (x : Side) (k : LinkState) (p : Pair) (f : ℕ → Sock) → (x ≡ Lesser → UpByGreater (p.link Lesser) f → UpByGreater k f) → UpByGreater (p.link Lesser) f → UpByGreater ((point x k p).link Lesser) f
 joined_point Lesser k p f g h = g refl h
 joined_point Greater k p f g h = h
 
@@ -158,8 +158,8 @@ quiet_link p x k h d j f = record {
 no_dial_up : (k l : LinkState) (f : ℕ → Sock) (u : ℕ) (b : Bool) → k ≡ Up u b → OpenDial k f → OpenDial l f
 no_dial_up k l f u b e h = absurd (subst (λ (m : LinkState). OpenDial m f) e h)
 
-still_joined : (k : LinkState) (f : ℕ → Sock) (u : ℕ) (b c : Bool) → k ≡ Up u b → UpByG k f → UpByG (Up u c) f
-still_joined k f u b c e h = subst (λ (m : LinkState). UpByG m f) e h
+still_joined : (k : LinkState) (f : ℕ → Sock) (u : ℕ) (b c : Bool) → k ≡ Up u b → UpByGreater k f → UpByGreater (Up u c) f
+still_joined k f u b c e h = subst (λ (m : LinkState). UpByGreater m f) e h
 
 -- the probed flag of an up link
 pub quiet_flag : (p : Pair) (x : Side) (u : ℕ) (b c : Bool) → Quiet p → p.link x ≡ Up u b → Quiet (point x (Up u c) p)
@@ -168,7 +168,7 @@ quiet_flag p x u b c h e = quiet_link p x (Up u c) h
     (joined_point x (Up u c) p p.sock (λ g. still_joined (p.link Lesser) p.sock u b c (ap p.link (sym g) ∙ e))) (λ g. cc)
 
 -- what a stale request tells
-pub joined_tells : (k : LinkState) (f : ℕ → Sock) → UpByG k f → (u : ℕ) × (b : Bool) × (k ≡ Up u b) × ((f u).opener ≡ Greater)
+pub joined_tells : (k : LinkState) (f : ℕ → Sock) → UpByGreater k f → (u : ℕ) × (b : Bool) × (k ≡ Up u b) × ((f u).opener ≡ Greater)
 joined_tells Idle f h = absurd h
 joined_tells AwaitOther f h = absurd h
 joined_tells (Dialing d) f h = absurd h

@@ -9,3 +9,4 @@ pub mod Facts
 pub mod Still
 pub mod QuietMoves
 pub mod Measures
+pub mod Opens

@@ -8,7 +8,8 @@ use Rattle.ch_link.specs.Sockets.{names}
 use Rattle.ch_race.specs.Moves.{Move, Want, Join, Come, Read_o, Read_t, End_o, End_t, Refuse, Lose_o, Lose_t, Cut_o, Cut_t, Late, Timer, Shut, Say, Settled, Allowed, IsOpen_o, IsOpen_t}
 use Rattle.ch_race.proofs.Opened.{gone_o, gone_t, let_go, fail, accept, decline, probe, answer, request, read_t, read_o, opened}
 use Rattle.ch_race.specs.Naming.{Role, Not, Asks, IsUp, role, role_o, role_t, Naming}
-use Rattle.ch_race.specs.Measure.{weigh, load, weigh_o, weigh_t, weight, total, Reads_o, Reads_t, Visits}
+use Rattle.ch_race.specs.Measure.{weigh, load, weigh_o, weigh_t, weight, sum_of, total, Reads_o, Reads_t}
+use Rattle.ch_race.specs.Settle.{Visits}
 use Rattle.ch_race.specs.Words.{Worded, In_o, In_t, UnlessCut, Phase}
 use Rattle.ch_race.proofs.Frame.{by_test, same_number, self_number, put_here, put_there}
 use Rattle.ch_race.proofs.Names.{same_self, same_peer}
@@ -21,20 +22,24 @@ apart i n h = grind (arith, nat_tests)
 below : (i n : ℕ) → nat_eq n i ≡ false → i < suc n → i < n
 below i n e h = grind (arith, nat_tests)
 
-total_past : (n i : ℕ) (s : Sock) (p : Pair) → n ≤ i → total n (put i s p).sock ≡ total n p.sock
-total_past zero i s p h = refl
-total_past (suc n) i s p h = let a : total n (put i s p).sock ≡ total n p.sock = total_past n i s p (omega arith) in
-    let b : weight ((put i s p).sock n) ≡ weight (p.sock n) = ap weight (put_there i n s p (apart i n (omega arith))) in omega arith
+pub sum_past : (f : Sock → ℕ) (n i : ℕ) (s : Sock) (p : Pair) → n ≤ i → sum_of f n (put i s p).sock ≡ sum_of f n p.sock
+sum_past f zero i s p h = refl
+sum_past f (suc n) i s p h = let a : sum_of f n (put i s p).sock ≡ sum_of f n p.sock = sum_past f n i s p (omega arith) in
+    let b : f ((put i s p).sock n) ≡ f (p.sock n) = ap f (put_there i n s p (apart i n (omega arith))) in omega arith
 
-total_put : (n i : ℕ) (s : Sock) (p : Pair) → i < n → total n (put i s p).sock + weight (p.sock i) ≡ total n p.sock + weight s
-total_put zero i s p h = absurd (omega arith)
-total_put (suc n) i s p h = by_test {P = total (suc n) (put i s p).sock + weight (p.sock i) ≡ total (suc n) p.sock + weight s} (nat_eq n i)
+-- what a put of one socket does to a sum
+pub sum_put : (f : Sock → ℕ) (n i : ℕ) (s : Sock) (p : Pair) → i < n → sum_of f n (put i s p).sock + f (p.sock i) ≡ sum_of f n p.sock + f s
+sum_put f zero i s p h = absurd (omega arith)
+sum_put f (suc n) i s p h = by_test {P = sum_of f (suc n) (put i s p).sock + f (p.sock i) ≡ sum_of f (suc n) p.sock + f s} (nat_eq n i)
     (λ e. let m : i ≡ n = same_number i n e in
-    let a : total n (put i s p).sock ≡ total n p.sock = total_past n i s p (omega arith) in
-    let b : weight ((put i s p).sock n) ≡ weight s = ap (λ (k : ℕ). weight ((put i s p).sock k)) (sym m) ∙ ap weight (put_here i s p) in
-    let c : weight (p.sock i) ≡ weight (p.sock n) = ap (λ (k : ℕ). weight (p.sock k)) m in omega arith)
-    (λ e. let a : total n (put i s p).sock + weight (p.sock i) ≡ total n p.sock + weight s = total_put n i s p (below i n e h) in
-    let b : weight ((put i s p).sock n) ≡ weight (p.sock n) = ap weight (put_there i n s p e) in omega arith)
+    let a : sum_of f n (put i s p).sock ≡ sum_of f n p.sock = sum_past f n i s p (omega arith) in
+    let b : f ((put i s p).sock n) ≡ f s = ap (λ (k : ℕ). f ((put i s p).sock k)) (sym m) ∙ ap f (put_here i s p) in
+    let c : f (p.sock i) ≡ f (p.sock n) = ap (λ (k : ℕ). f (p.sock k)) m in omega arith)
+    (λ e. let a : sum_of f n (put i s p).sock + f (p.sock i) ≡ sum_of f n p.sock + f s = sum_put f n i s p (below i n e h) in
+    let b : f ((put i s p).sock n) ≡ f (p.sock n) = ap f (put_there i n s p e) in omega arith)
+
+pub total_put : (n i : ℕ) (s : Sock) (p : Pair) → i < n → total n (put i s p).sock + weight (p.sock i) ≡ total n p.sock + weight s
+total_put n i s p h = sum_put weight n i s p h
 
 lower : (n i : ℕ) (s : Sock) (p : Pair) → i < n → weight s < weight (p.sock i) → total n (put i s p).sock < total n p.sock
 lower n i s p h w = let a = total_put n i s p h in omega arith

@@ -10,13 +10,15 @@ use Rattle.ch_race.proofs.Opened.{let_go, fail, gone_o, gone_t, accept, decline,
 use Rattle.ch_race.specs.Naming.{Not, Asks, IsUp, role, role_o, role_t, Naming}
 use Rattle.ch_race.specs.Words.{Worded, In_o, In_t, UnlessCut, Phase}
 use Rattle.ch_race.specs.Probes.{Probing}
-use Rattle.ch_race.specs.Quiet.{IsAsked, OpenDial, UpByG, Fits, Whole_o, Whole_t, QuietSock, Dialed, Joined, Quiet, Quieted, Breaks_o, Breaks_t}
+use Rattle.ch_race.specs.Quiet.{IsAsked, OpenDial, UpByGreater, Fits, Whole_o, Whole_t, QuietSock, Dialed, Joined, Quiet, Quieted, Breaks_o, Breaks_t}
 use Rattle.ch_race.proofs.Frame.{by_test, same_number, put_here, put_there}
 use Rattle.ch_race.proofs.Names.{decline_keeps, keeps, start_named, named_not, dead_unnamed}
 use Rattle.ch_race.proofs.WordMoves.{IsUpOf, Opener_up, Target_up, up_of, says_own, says_peer, words_kept, start_worded}
 use Rattle.ch_race.proofs.ProbeMoves.{probes_kept, start_probing}
 use Rattle.ch_race.proofs.Still.{quiescent, settled_quiet, no_timer}
-use Rattle.ch_race.specs.Settled.{Invariant, NoBreak, WhenStill, Licensed}
+use Rattle.ch_race.specs.Invariant.{Invariant}
+use Rattle.ch_race.specs.Quiet.{NoBreak, Licensed}
+use Rattle.ch_race.specs.Rest.{WhenStill}
 use Rattle.ch_race.proofs.Words.{asker, open_word}
 use Rattle.ch_race.proofs.Facts.{asking_link, up_link, role_dialing, role_up, dialer, fits_map, quiet_frame, dial_put, joined_put, dial_point, joined_point, await_point, quiet_put, quiet_words, quiet_flag, joined_tells, dialed_tells, stale_named, up_not_left}
 
@@ -35,7 +37,7 @@ want_quiet p x i n h idle o t = quiet_frame p (point x (Dialing i) (put i (fresh
       up_there b e = dead_unnamed p i Lesser n o t ∙ ap (λ (l : LinkState). role l i) e ∙ role_up i b
 
       joined : Joined p → Joined (point x (Dialing i) (put i (fresh x) p))
-      joined j = joined_point x (Dialing i) p (put i (fresh x) p).sock (λ g od. absurd (subst (λ (k : LinkState). UpByG k (put i (fresh x) p).sock) (ap p.link (sym g) ∙ idle) od))
+      joined j = joined_point x (Dialing i) p (put i (fresh x) p).sock (λ g od. absurd (subst (λ (k : LinkState). UpByGreater k (put i (fresh x) p).sock) (ap p.link (sym g) ∙ idle) od))
           (joined_put (p.link Lesser) p i (fresh x) (λ b e g. absurd (clash (up_there b e))) j) where
             clash : Not ≡ IsUp → ⊥
             clash e = cc
@@ -123,7 +125,7 @@ module _ (p : Pair) (i : ℕ) (n : Naming p) (ws : Worded p) (h : Quiet p) where
 
         joined : Joined p → Joined (point (p.sock i).opener (Up i false) (put i (record (p.sock i) { o = OUp; in_o = w }) p))
         joined j = joined_point (p.sock i).opener (Up i false) p (put i (record (p.sock i) { o = OUp; in_o = w }) p).sock
-            (λ g od. absurd (subst (λ (k : LinkState). UpByG k p.sock) (ap p.link (sym g) ∙ asked_link is) j))
+            (λ g od. absurd (subst (λ (k : LinkState). UpByGreater k p.sock) (ap p.link (sym g) ∙ asked_link is) j))
             (joined_put (p.link Lesser) p i (record (p.sock i) { o = OUp; in_o = w }) (λ b e g. g) j)
 
   -- the opener is crossed
@@ -159,7 +161,7 @@ module _ (p : Pair) (i : ℕ) (n : Naming p) (ws : Worded p) (h : Quiet p) where
           l_not_g e = cc
 
         joined : Joined p → Joined (point (p.sock i).opener AwaitOther (put i (end_o (p.sock i)) p))
-        joined j = absurd (subst (λ (k : LinkState). UpByG k p.sock) (ap p.link (sym tells.1) ∙ asked_link is) j)
+        joined j = absurd (subst (λ (k : LinkState). UpByGreater k p.sock) (ap p.link (sym tells.1) ∙ asked_link is) j)
 
         waits : (z : Side) → (point Lesser AwaitOther p).link z ≡ AwaitOther → z ≡ Lesser
         waits Lesser e = refl

@@ -8,7 +8,7 @@ use Rattle.ch_race.specs.Naming.{role_o, role_t, Naming}
 use Rattle.ch_race.specs.Words.{Words, Worded, In_o, UnlessCut, Phase}
 use Rattle.ch_race.specs.Probes.{is_probe, is_ack, count, flag, Account, Probed, Probing}
 use Rattle.ch_race.specs.Quiet.{Fits, Whole_o, Whole_t, QuietSock, Dialed, Quiet}
-use Rattle.ch_race.specs.Settled.{Quiescent}
+use Rattle.ch_race.specs.Rest.{Quiescent}
 use Rattle.ch_race.proofs.WordMoves.{IsUpOf, Opener_up, Target_up, up_of}
 use Rattle.ch_race.proofs.Facts.{asking_link, up_link, still_no_dial, dialed_tells}
 

@@ -4,6 +4,8 @@ pub mod Naming
 pub mod Words
 pub mod Probes
 pub mod Quiet
-pub mod Settled
-
+pub mod Invariant
+pub mod Rest
 pub mod Measure
+pub mod Settle
+pub mod Payloads

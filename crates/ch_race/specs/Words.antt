@@ -1,4 +1,4 @@
--- What may stand unread between two ends.
+-- What may stand unread on a socket, by the states of its two ends.
 use Rattle.std.specs.Prelude.{◌≡◌, ℕ, Bool, true, false, List, [], ◌∷◌}
 use Rattle.ch_race.specs.Pair.{other, OEnd, OPending, OAsking, OUp, OEnded, TEnd, TPending, TOpen, TUp, TEnded, Item, Request, Accepted, Crossed, Invalid, EndClosed, Probe, Ack, Data, Sock, Pair}
 
@@ -19,10 +19,12 @@ Answers down (Invalid ∷ w) = (down ≡ true) × (w ≡ [])
 Answers down (Accepted ∷ w) = Frames false down w
 Answers down (item ∷ w) = ⊥
 
+-- an acceptance that is unread, with frames behind it, and no Ack among them
 abbrev pub Begins : List Item → Type 0
 Begins (Accepted ∷ w) = Frames false false w
 Begins w = ⊥
 
+-- a request, or nothing
 abbrev pub AtMostRequest : List Item → Type 0
 AtMostRequest [] = Unit {0}
 AtMostRequest (Request ∷ w) = w ≡ []
@@ -53,19 +55,22 @@ Phase OUp TPending = ⊥
 Phase OUp TOpen = ⊥
 Phase o t = Unit {0}
 
+-- nothing is cut before the opener joined
 abbrev pub Uncut_o : OEnd → Bool → Type 0
 Uncut_o OPending cut = cut ≡ false
 Uncut_o o cut = Unit {0}
 
+-- nothing is cut before the target came
 abbrev pub Uncut_t : TEnd → Bool → Type 0
 Uncut_t TPending cut = cut ≡ false
 Uncut_t t cut = Unit {0}
 
+-- nothing is unread where the way is cut; else the fact holds
 abbrev pub UnlessCut : Bool → List Item → Type 0 → Type 0
 UnlessCut true w P = w ≡ []
 UnlessCut false w P = P
 
--- down_o, down_t: the opener, the target is shut
+-- the whole table for one socket. down_o, down_t: the opener, the target is shut
 pub record Words (down_o down_t : Bool) (s : Sock) : Type 0 where
   pub phase : Phase s.o s.t
   pub uncut_o : Uncut_o s.o s.cut_o
@@ -73,5 +78,6 @@ pub record Words (down_o down_t : Bool) (s : Sock) : Type 0 where
   pub word_o : UnlessCut s.cut_o s.in_o (In_o s.o s.t down_t s.in_o)
   pub word_t : UnlessCut s.cut_t s.in_t (In_t s.o s.t down_o s.in_t)
 
+-- the same of every socket of the pair
 abbrev pub Worded : Pair → Type 0
 Worded p = (i : ℕ) → Words (p.shut (p.sock i).opener) (p.shut (other (p.sock i).opener)) (p.sock i)

@@ -3,7 +3,7 @@
 
 ghost use Rattle.std.specs.Prelude.{◌≡◌, Bool};
 ghost use Rattle.ch_race.specs.Pair.{Side, start};
-ghost use Rattle.ch_race.specs.Settled.{Invariant};
+ghost use Rattle.ch_race.specs.Invariant.{Invariant};
 
 /// The invariant holds at the start.
 pub fn begins()
