@@ -10,3 +10,8 @@ pub mod Still
 pub mod QuietMoves
 pub mod Measures
 pub mod Opens
+pub mod Runs
+pub mod Rise
+pub mod Within
+pub mod Settles
+pub mod Delivers

@@ -103,7 +103,7 @@ gone_row x AwaitOther i p e = absurd (cc)
 gone_row x (Dialing d) i p e = refl
 gone_row x (Up u b) i p e = refl
 
-late_row : (x : Side) (k : LinkState) (p : Pair) → IsTimed k → obeys x k 0 (step_of k inputs.Late (is_greater x)) p ≡ let_go x k p
+pub late_row : (x : Side) (k : LinkState) (p : Pair) → IsTimed k → obeys x k 0 (step_of k inputs.Late (is_greater x)) p ≡ let_go x k p
 unfolding step_of
 late_row x Idle p e = absurd e
 late_row x AwaitOther p e = refl
@@ -150,7 +150,7 @@ module _ (i : ℕ) (s : Sock) (p : Pair) (opener : s.opener ≡ (p.sock i).opene
       ∙ ap (λ (z : Sock). point x Idle (put i z p)) ends ∙ ap (λ (k : LinkState). let_go x k p) (sym e)
 
 -- a node that dials one socket isn't the target of it
-apart : (p : Pair) (i : ℕ) (y : Side) → Naming p → y ≡ other (p.sock i).opener → (d : ℕ) → p.link y ≡ Dialing d → nat_eq d i ≡ false
+pub apart : (p : Pair) (i : ℕ) (y : Side) → Naming p → y ≡ other (p.sock i).opener → (d : ℕ) → p.link y ≡ Dialing d → nat_eq d i ≡ false
 apart p i y n is d e = by_test (nat_eq d i) (λ h. absurd (not_other (p.sock i).opener (sym is ∙ (dialer p y i n (e ∙ ap Dialing (sym (same_number i d h)))).0))) (λ h. h) where
   not_other : (x : Side) → other x ≡ x → ⊥
   not_other Lesser f = cc

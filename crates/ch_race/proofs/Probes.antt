@@ -6,11 +6,11 @@ use Rattle.ch_race.specs.Words.{Frames, Words, In_o, In_t, UnlessCut, Phase}
 use Rattle.ch_race.proofs.Words.{raised_phase, asker, empty, open_word}
 use Rattle.ch_race.specs.Probes.{is_probe, is_ack, bit, count, flag, Account, Probed}
 
-count_append : (f : Item → Bool) (w : List Item) (item : Item) → count f (w ++ item ∷ []) ≡ count f w + bit (f item)
+pub count_append : (f : Item → Bool) (w : List Item) (item : Item) → count f (w ++ item ∷ []) ≡ count f w + bit (f item)
 count_append f [] item = omega arith
 count_append f (x ∷ w) item = let e = count_append f w item in omega arith
 
-wrote : (f : Item → Bool) (ended cut : Bool) (item : Item) (w : List Item) → count f (written ended cut item w) ≡ count f w + cond (ended || cut) 0 (bit (f item))
+pub wrote : (f : Item → Bool) (ended cut : Bool) (item : Item) (w : List Item) → count f (written ended cut item w) ≡ count f w + cond (ended || cut) 0 (bit (f item))
 wrote f true cut item w = omega arith
 wrote f false true item w = omega arith
 wrote f false false item w = count_append f w item

@@ -168,12 +168,12 @@ module _ (p : Pair) (i : ℕ) (n : Naming p) (ws : Worded p) (h : Quiet p) where
         waits Greater e = (h.awaits Greater e).0
 
   -- no break
-  no_break_o : Breaks_o (p.sock i).o (p.sock i).in_o → ⊥
+  pub no_break_o : Breaks_o (p.sock i).o (p.sock i).in_o → ⊥
   no_break_o b = clash (p.sock i).o (p.sock i).t (p.shut (other (p.sock i).opener)) (p.sock i).cut_o (p.sock i).in_o b (h.running (other (p.sock i).opener)) (ws i).word_o (ws i).phase where
     clash : (o : OEnd) (t : TEnd) (b cut : Bool) (v : List Item) → Breaks_o o v → b ≡ false → UnlessCut cut v (In_o o t b v) → Phase o t → ⊥
     clash o t b cut v f e a ph = grind arith
 
-  no_break_t : Breaks_t (p.sock i).t (p.sock i).in_t → ⊥
+  pub no_break_t : Breaks_t (p.sock i).t (p.sock i).in_t → ⊥
   no_break_t b = clash (p.sock i).o (p.sock i).t (p.shut (p.sock i).opener) (p.sock i).cut_t (p.sock i).in_t b (h.running (p.sock i).opener) (ws i).word_t (ws i).phase where
     clash : (o : OEnd) (t : TEnd) (b cut : Bool) (v : List Item) → Breaks_t t v → b ≡ false → UnlessCut cut v (In_t o t b v) → Phase o t → ⊥
     clash o t b cut v f e a ph = grind arith
@@ -371,7 +371,7 @@ module _ (i : ℕ) (w : List Item) (p : Pair) (n : Naming p) (ws : Worded p) (h 
     own_dial : (Lesser ≡ (p.sock d).opener) × (role_o (p.sock d).o ≡ Asks)
     own_dial = dialer p Lesser d n e
 
-    not_taken : TUp ≡ (p.sock d).t → ⊥
+    pub not_taken : TUp ≡ (p.sock d).t → ⊥
     not_taken up = dial_not_up (p.link Greater) i d g_dials (ap role_t up ∙ (n d).peer ∙ ap (λ (z : Side). role (p.link (other z)) d) (sym own_dial.0))
 
     left_sock : QuietSock (Dialed gone) (Joined gone) (end_of Lesser (p.sock d))
@@ -562,25 +562,25 @@ never e = absurd (clash e) where
   clash : false ≡ true → ⊥
   clash f = cc
 
-let_go_flag : (x : Side) (k : LinkState) (p : Pair) → (let_go x k p).quiet ≡ p.quiet
+pub let_go_flag : (x : Side) (k : LinkState) (p : Pair) → (let_go x k p).quiet ≡ p.quiet
 let_go_flag x Idle p = refl
 let_go_flag x AwaitOther p = refl
 let_go_flag x (Dialing i) p = refl
 let_go_flag x (Up i b) p = refl
 
-gone_o_flag : (i : ℕ) (p : Pair) → (gone_o i p).quiet ≡ p.quiet
+pub gone_o_flag : (i : ℕ) (p : Pair) → (gone_o i p).quiet ≡ p.quiet
 gone_o_flag i p = by_name (names (p.link (p.sock i).opener) i) where
   by_name : (b : Bool) → (cond b (fail (p.sock i).opener p) (put i (end_o (p.sock i)) p)).quiet ≡ p.quiet
   by_name true = let_go_flag (p.sock i).opener _ p
   by_name false = refl
 
-gone_t_flag : (i : ℕ) (p : Pair) → (gone_t i p).quiet ≡ p.quiet
+pub gone_t_flag : (i : ℕ) (p : Pair) → (gone_t i p).quiet ≡ p.quiet
 gone_t_flag i p = by_name (names (p.link (other (p.sock i).opener)) i) where
   by_name : (b : Bool) → (cond b (fail (other (p.sock i).opener) p) (put i (end_t (p.sock i)) p)).quiet ≡ p.quiet
   by_name true = let_go_flag (other (p.sock i).opener) _ p
   by_name false = refl
 
-shut_flag : (x : Side) (k : LinkState) (p : Pair) → (shut_down x k p).quiet ≡ p.quiet
+pub shut_flag : (x : Side) (k : LinkState) (p : Pair) → (shut_down x k p).quiet ≡ p.quiet
 shut_flag x Idle p = refl
 shut_flag x AwaitOther p = refl
 shut_flag x (Dialing i) p = refl

@@ -4,8 +4,8 @@ pub mod Naming
 pub mod Words
 pub mod Probes
 pub mod Quiet
-pub mod Invariant
 pub mod Rest
 pub mod Measure
 pub mod Settle
 pub mod Payloads
+pub mod Invariant

@@ -1,0 +1,17 @@
+-- What each move keeps, all moves keep.
+use Rattle.std.proofs.Common.{◌≡◌, Bool, List, [], ◌∷◌, sym, subst}
+use Rattle.ch_race.specs.Pair.{Side, Pair, start}
+use Rattle.ch_race.specs.Moves.{Move, Allowed, after, run, AllAllowed}
+use Rattle.ch_race.specs.Invariant.{Invariant, IsReached}
+use Rattle.ch_race.proofs.Opens.{opens}
+use Rattle.ch_race.proofs.QuietMoves.{invariant_kept, invariant_start}
+
+pub invariant_after : (m : Move) (p : Pair) → Allowed m p → Invariant p → Invariant (after m p)
+invariant_after m p is v = subst Invariant (sym (opens m p is v.named)) (invariant_kept m p is v)
+
+pub invariant_run : (ms : List Move) (p : Pair) → AllAllowed ms p → Invariant p → Invariant (run ms p)
+invariant_run [] p are v = v
+invariant_run (m ∷ ms) p (is, are) v = invariant_run ms (after m p) are (invariant_after m p is v)
+
+pub invariant_reached : (p : Pair) → IsReached p → Invariant p
+invariant_reached p r = subst Invariant r.3 (invariant_run r.1 (start r.0) r.2 (invariant_start r.0))
