@@ -1,21 +1,21 @@
 -- While a pair stays quiet, each payload that is written stays unread until it is read.
-use Rattle.std.proofs.Common.{◌≡◌, ◌⊎◌, ◌<◌, ℕ, zero, suc, ◌+◌, nat_eq, Bool, true, false, cond, ◌||◌, List, [], ◌∷◌, ◌++◌, refl, ap, sym, ◌∙◌, subst, arith}
+use Rattle.std.proofs.Common.{◌≡◌, ◌<◌, ℕ, zero, suc, ◌+◌, nat_eq, Bool, true, false, cond, ◌||◌, List, [], ◌∷◌, refl, ap, sym, ◌∙◌, subst, arith}
 use Rattle.std.proofs.lemmas.Bool.Decides.{nat_tests}
 use Rattle.ch_link.specs.Sockets.{names}
 use Rattle.ch_link.specs.declared.LinkState.{LinkState}
 use Rattle.ch_link.specs.declared.LinkState.TheVariants.{Idle, Dialing, AwaitOther, Up}
 use Rattle.ch_race.specs.Pair.{Side, Lesser, Greater, other, same, OEnd, OPending, OAsking, OUp, OEnded, TEnd, TPending, TOpen, TUp, TEnded, Item, Request, Accepted, Crossed, Invalid, EndClosed, Probe, Ack, Data, Sock, Pair, put, to_o, to_t, end_o, end_t, end_of, says, fresh, written, o_ended, t_ended}
-use Rattle.ch_race.specs.Moves.{Move, Want, Join, Come, Read_o, Read_t, End_o, End_t, Refuse, Lose_o, Lose_t, Cut_o, Cut_t, Late, Timer, Shut, Say, Settled, after, Allowed, run, AllAllowed, say, troubled, shutting, IsStill, AllStill, IsOpen_o, IsOpen_t}
-use Rattle.ch_race.specs.Naming.{Asks, IsUp, role, role_o, role_t, Naming}
-use Rattle.ch_race.specs.Words.{Words, Worded, In_o, In_t, UnlessCut, Phase}
+use Rattle.ch_race.specs.Moves.{Move, Want, Join, Come, Read_o, Read_t, End_o, End_t, Refuse, Lose_o, Lose_t, Cut_o, Cut_t, Late, Timer, Shut, Say, Settled, after, Allowed, run, AllAllowed, say, troubled, shutting, AllStill, IsOpen_o, IsOpen_t}
+use Rattle.ch_race.specs.Naming.{Asks, role_o, Naming}
+use Rattle.ch_race.specs.Words.{Words, Worded, In_o, In_t, UnlessCut}
 use Rattle.ch_race.specs.Probes.{bit, count}
 use Rattle.ch_race.specs.Quiet.{Fits, Whole_o, Whole_t, Quiet, Dialed, Joined, Breaks_o, Breaks_t}
 use Rattle.ch_race.specs.Measure.{sum_of}
 use Rattle.ch_race.specs.Settle.{Bounded, Beyond, IsWithin, AllWithin}
 use Rattle.ch_race.specs.Payloads.{is_data, payloads, unread, says_one, said, reads_one_o, reads_one_t, got, all_said, all_got, StaysQuiet}
 use Rattle.ch_race.specs.Invariant.{Invariant}
-use Rattle.ch_race.proofs.Opened.{opened, let_go, fail, gone_o, gone_t, accept, decline, probe, answer, request, read_t, read_o}
-use Rattle.ch_race.proofs.Frame.{by_test, self_number, put_there}
+use Rattle.ch_race.proofs.Opened.{opened, fail, gone_t, decline, answer, request, read_t, read_o}
+use Rattle.ch_race.proofs.Frame.{self_number, put_there}
 use Rattle.ch_race.proofs.Words.{empty}
 use Rattle.ch_race.proofs.WordMoves.{IsUpOf, Opener_up, Target_up, up_of, says_own, says_peer}
 use Rattle.ch_race.proofs.Probes.{count_append, wrote}
@@ -24,7 +24,7 @@ use Rattle.ch_race.proofs.QuietMoves.{not_taken, no_break_o, no_break_t, end_o_n
 use Rattle.ch_race.proofs.Still.{no_timer}
 use Rattle.ch_race.proofs.Measures.{sum_put}
 use Rattle.ch_race.proofs.Opens.{opens, apart}
-use Rattle.ch_race.proofs.Runs.{invariant_after}
+use Rattle.ch_race.proofs.Runs.{invariant_after, invariant_run}
 use Rattle.ch_race.proofs.Within.{bounded, beyond_after}
 
 -- a put that changes the payloads of the socket
@@ -130,13 +130,13 @@ says_more : (p : Pair) (x : Side) (i : ℕ) → Quiet p → IsUpOf (p.sock i) x 
 says_more p x i h (Opener_up e up) =
     let s : Sock = p.sock i in
     let more : count is_data (written (t_ended s.t) s.cut_t Data s.in_t) ≡ count is_data s.in_t + 1 =
-        one_more (t_ended s.t) s.cut_t s.in_t (heard_t (Dialed p) (Joined p) s.opener s.o s.t s.cut_t s.in_o up (h.socks i).whole_t (h.socks i).fits) in
+    one_more (t_ended s.t) s.cut_t s.in_t (heard_t (Dialed p) (Joined p) s.opener s.o s.t s.cut_t s.in_o up (h.socks i).whole_t (h.socks i).fits) in
     let own : payloads (to_t Data s) ≡ payloads s + 1 = omega arith in
     subst (λ (z : Side). payloads (says z Data s) ≡ payloads s + 1) (sym e) (subst (λ (z : Sock). payloads z ≡ payloads s + 1) (says_own s Data) own)
 says_more p x i h (Target_up e up) =
     let s : Sock = p.sock i in
     let more : count is_data (written (o_ended s.o) s.cut_o Data s.in_o) ≡ count is_data s.in_o + 1 =
-        one_more (o_ended s.o) s.cut_o s.in_o (heard_o (Dialed p) (Joined p) s.opener s.o s.t s.cut_o s.in_o up (h.socks i).whole_o (h.socks i).fits) in
+    one_more (o_ended s.o) s.cut_o s.in_o (heard_o (Dialed p) (Joined p) s.opener s.o s.t s.cut_o s.in_o up (h.socks i).whole_o (h.socks i).fits) in
     let peer : payloads (to_o Data s) ≡ payloads s + 1 = omega arith in
     subst (λ (z : Side). payloads (says z Data s) ≡ payloads s + 1) (sym e) (subst (λ (z : Sock). payloads z ≡ payloads s + 1) (says_peer s Data) peer)
 
@@ -296,3 +296,9 @@ none_in (suc n) f h = let e = none_in n f h in let g = h n in omega arith
 
 pub none_left : (n : ℕ) (p : Pair) → Worded p → AllStill p → unread n p ≡ 0
 none_left n p ws still = none_in n p.sock (none_unread p ws still)
+
+pub all_read : (n : ℕ) (ms : List Move) (p : Pair) → Invariant p → Beyond n p → AllAllowed ms p → AllWithin n ms → StaysQuiet ms p → AllStill (run ms p) → all_said ms p + unread n p ≡ all_got ms p
+all_read n ms p v b are hs on still =
+    let kept : all_said ms p + unread n p ≡ all_got ms p + unread n (run ms p) = all_delivered n ms p v b are hs on in
+    let none : unread n (run ms p) ≡ 0 = none_left n (run ms p) (invariant_run ms p are v).words still in
+    omega arith

@@ -5,7 +5,7 @@ use Rattle.ch_link.specs.declared.LinkState.{LinkState}
 use Rattle.ch_link.specs.declared.LinkState.TheVariants.{Idle, Dialing, AwaitOther, Up}
 use Rattle.ch_race.specs.Pair.{Side, Lesser, Greater, other, same, OEnd, OPending, OAsking, OUp, OEnded, TEnd, TOpen, TUp, TEnded, Item, Request, Accepted, Crossed, Invalid, EndClosed, Probe, Ack, Data, Sock, Pair, start, put, point, to_o, to_t, end_o, end_t, end_of, says, fresh}
 use Rattle.ch_link.specs.Sockets.{names}
-use Rattle.ch_race.specs.Moves.{Move, Want, Join, Come, Read_o, Read_t, End_o, End_t, Refuse, Lose_o, Lose_t, Cut_o, Cut_t, Late, Timer, Shut, Say, Settled, Allowed, run, AllAllowed, say, troubled}
+use Rattle.ch_race.specs.Moves.{Move, Want, Join, Come, Read_o, Read_t, End_o, End_t, Refuse, Lose_o, Lose_t, Cut_o, Cut_t, Late, Timer, Shut, Say, Settled, Allowed, say, troubled}
 use Rattle.ch_race.proofs.Opened.{let_go, fail, accept, decline, probe, answer, request, read_t, read_o, shut_down, opened}
 use Rattle.ch_race.specs.Naming.{Not, Asks, IsUp, role, role_o, role_t, Naming, IsLive, OneLive, Bundle}
 use Rattle.ch_race.proofs.Frame.{self_number, Only, only_dialing, only_up, changed_alone, pointed, own_changes, peer_changes, asks_only, still_up}

@@ -1,6 +1,6 @@
 -- Each move is what the opened table says.
 use mathlib.Core.Path.{fun_ext}
-use Rattle.std.proofs.Common.{◌≡◌, ℕ, nat_eq, Bool, true, false, cond, List, [], ◌∷◌, refl, ap, sym, ◌∙◌, subst}
+use Rattle.std.proofs.Common.{◌≡◌, ℕ, nat_eq, Bool, true, false, cond, List, ◌∷◌, refl, ap, sym, ◌∙◌}
 use Rattle.ch_link.specs.Table.{step_of}
 use Rattle.ch_link.specs.Sockets.{names}
 use Rattle.ch_link.specs.declared.LinkState.{LinkState}
@@ -8,11 +8,11 @@ use Rattle.ch_link.specs.declared.LinkState.TheVariants.{Idle, Dialing, AwaitOth
 use Rattle.ch_link.specs.declared.LinkIn.{LinkIn}
 use Rattle.ch_link.specs.declared.LinkIn.TheVariants as inputs
 use Rattle.ch_link.specs.declared.LinkAnswer.TheVariants as answers
-use Rattle.ch_race.specs.Pair.{Side, Lesser, Greater, other, same, is_greater, OEnd, OPending, OAsking, OUp, OEnded, TEnd, TPending, TOpen, TUp, TEnded, Item, Request, Accepted, Crossed, Invalid, EndClosed, Probe, Ack, Data, Sock, Pair, put, point, to_o, to_t, end_o, end_t, end_of, says}
+use Rattle.ch_race.specs.Pair.{Side, Lesser, Greater, other, same, is_greater, OEnd, OAsking, OUp, TEnd, TOpen, TUp, Item, Request, Accepted, Crossed, Invalid, EndClosed, Probe, Ack, Data, Sock, Pair, put, point, end_o, end_t, end_of, says}
 use Rattle.ch_race.specs.Moves.{Move, Want, Join, Come, Read_o, Read_t, End_o, End_t, Refuse, Lose_o, Lose_t, Cut_o, Cut_t, Late, Timer, Shut, Say, Settled, after, Allowed, obeys, hears, asked, accepted, declined, leaves, closes, troubled, shutting, IsTimed}
 use Rattle.ch_race.specs.Moves as moves
-use Rattle.ch_race.specs.Naming.{role, role_o, role_t, Naming}
-use Rattle.ch_race.proofs.Opened.{opened, let_go, fail, decline, answer, request, read_t, read_o, gone_o, gone_t, shut_down}
+use Rattle.ch_race.specs.Naming.{role_o, role_t, Naming}
+use Rattle.ch_race.proofs.Opened.{opened, let_go, fail, answer, request, read_t, read_o, gone_o, gone_t, shut_down}
 use Rattle.ch_race.proofs.Frame.{by_test, same_number, put_here, put_there}
 use Rattle.ch_race.proofs.Names.{same_self, same_peer}
 use Rattle.ch_race.proofs.WordMoves.{says_own, says_peer}
@@ -105,7 +105,7 @@ gone_row x (Up u b) i p e = refl
 
 pub late_row : (x : Side) (k : LinkState) (p : Pair) → IsTimed k → obeys x k 0 (step_of k inputs.Late (is_greater x)) p ≡ let_go x k p
 unfolding step_of
-late_row x Idle p e = absurd e
+late_row x Idle p e = absurd (cc)
 late_row x AwaitOther p e = refl
 late_row x (Dialing d) p e = refl
 late_row x (Up u true) p e = refl

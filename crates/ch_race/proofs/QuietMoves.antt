@@ -5,7 +5,7 @@ use Rattle.ch_link.specs.declared.LinkState.{LinkState}
 use Rattle.ch_link.specs.declared.LinkState.TheVariants.{Idle, Dialing, AwaitOther, Up}
 use Rattle.ch_race.specs.Pair.{Side, Lesser, Greater, other, same, OEnd, OPending, OAsking, OUp, OEnded, TEnd, TPending, TOpen, TUp, TEnded, Item, Request, Accepted, Crossed, Invalid, EndClosed, Probe, Ack, Data, Sock, Pair, start, put, point, to_o, to_t, end_o, end_t, end_of, says, fresh, written, o_ended, t_ended}
 use Rattle.ch_link.specs.Sockets.{names}
-use Rattle.ch_race.specs.Moves.{Move, shutting, Want, Join, Come, Read_o, Read_t, End_o, End_t, Refuse, Lose_o, Lose_t, Cut_o, Cut_t, Late, Timer, Shut, Say, Settled, Allowed, run, AllAllowed, say, troubled, IsOpen_o, IsOpen_t}
+use Rattle.ch_race.specs.Moves.{Move, shutting, Want, Join, Come, Read_o, Read_t, End_o, End_t, Refuse, Lose_o, Lose_t, Cut_o, Cut_t, Late, Timer, Shut, Say, Settled, Allowed, say, troubled, IsOpen_o, IsOpen_t}
 use Rattle.ch_race.proofs.Opened.{let_go, fail, gone_o, gone_t, accept, decline, probe, answer, request, read_t, read_o, shut_down, opened}
 use Rattle.ch_race.specs.Naming.{Not, Asks, IsUp, role, role_o, role_t, Naming}
 use Rattle.ch_race.specs.Words.{Worded, In_o, In_t, UnlessCut, Phase}
@@ -643,7 +643,7 @@ quiet_kept (Late x) p is n ws pr h on = never (sym (let_go_flag x (p.link x) (tr
 quiet_kept (Timer x) p is n ws pr h on = absurd (no_timer p n ws pr is.1 x (h (sym (let_go_flag x (p.link x) p) ∙ on)) is.0)
 quiet_kept (Shut x) p is n ws pr h on = never (sym (shut_flag x (p.link x) (shutting x p)) ∙ on)
 quiet_kept (Say x) p is n ws pr h on = say_quiet p x (p.link x) n (h (sym (say_flag x (p.link x) p) ∙ on)) refl
-quiet_kept Settled p is n ws pr h on = settled_quiet p n ws pr is.0 is.1 is.2 on
+quiet_kept Settled p is n ws pr h on = settled_quiet p n ws pr is.still is.lesser is.greater on
 
 pub no_break : (p : Pair) → Invariant p → NoBreak p
 no_break p v (Read_o i) on is b = no_break_o p i v.named v.words (v.quieted on) b

@@ -19,9 +19,11 @@ record Keeps (p q : Pair) : Type 0 where
   up : (j : ℕ) → (q.sock j).t ≡ TUp → (p.sock j).t ≡ TUp
 
 keep_put : (p : Pair) (i : ℕ) (s : Sock) → (s.t ≡ TUp → (p.sock i).t ≡ TUp) → Keeps p (put i s p)
-keep_put p i s f = record { up = λ j. by_test {P = ((put i s p).sock j).t ≡ TUp → (p.sock j).t ≡ TUp} (nat_eq j i)
-    (λ e. subst (λ (m : ℕ). ((put i s p).sock m).t ≡ TUp → (p.sock m).t ≡ TUp) (same_number i j e) (subst (λ (z : Sock). z.t ≡ TUp → (p.sock i).t ≡ TUp) (sym (put_here i s p)) f))
-    (λ e. subst (λ (z : Sock). z.t ≡ TUp → (p.sock j).t ≡ TUp) (sym (put_there i j s p e)) (λ h. h)) }
+keep_put p i s f = record {
+  up = λ j. by_test {P = ((put i s p).sock j).t ≡ TUp → (p.sock j).t ≡ TUp} (nat_eq j i)
+      (λ e. subst (λ (m : ℕ). ((put i s p).sock m).t ≡ TUp → (p.sock m).t ≡ TUp) (same_number i j e) (subst (λ (z : Sock). z.t ≡ TUp → (p.sock i).t ≡ TUp) (sym (put_here i s p)) f))
+      (λ e. subst (λ (z : Sock). z.t ≡ TUp → (p.sock j).t ≡ TUp) (sym (put_there i j s p e)) (λ h. h));
+}
 
 same_up : (p : Pair) → Keeps p p
 same_up p = record { up = λ j h. h }
@@ -107,9 +109,11 @@ module _ (p : Pair) (i : ℕ) (w : List Item) (n : Naming p) (ws : Worded p) (is
   free k e never = record { target = λ u b f. never u b (sym e ∙ f); opener = asking }
 
   accept_up : (q : Pair) (y : Side) → Keeps p q → IsFreeFor p i → MayRise p (accept y i at q)
-  accept_up q y k f = record { may = λ j h. by_test {P = ((p.sock j).t ≡ TUp) ⊎ IsFreeFor p j} (nat_eq j i)
-      (λ e. inr (subst (IsFreeFor p) (same_number i j e) f))
-      (λ e. inl (k.up j (subst (λ (z : Sock). z.t ≡ TUp) (put_there i j (record (to_o Accepted at) { t = TUp }) q e) h))) }
+  accept_up q y k f = record {
+    may = λ j h. by_test {P = ((p.sock j).t ≡ TUp) ⊎ IsFreeFor p j} (nat_eq j i)
+        (λ e. inr (subst (IsFreeFor p) (same_number i j e) f))
+        (λ e. inl (k.up j (subst (λ (z : Sock). z.t ≡ TUp) (put_there i j (record (to_o Accepted at) { t = TUp }) q e) h)));
+  }
 
   decline_up : (item : Item) → Keeps p (decline item i at p)
   decline_up item = keep_put p i (end_t (to_o item at)) (λ h. ended_not_up h)

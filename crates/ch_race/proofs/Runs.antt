@@ -1,6 +1,6 @@
 -- What each move keeps, all moves keep.
-use Rattle.std.proofs.Common.{◌≡◌, Bool, List, [], ◌∷◌, sym, subst}
-use Rattle.ch_race.specs.Pair.{Side, Pair, start}
+use Rattle.std.proofs.Common.{List, [], ◌∷◌, sym, subst}
+use Rattle.ch_race.specs.Pair.{Pair, start}
 use Rattle.ch_race.specs.Moves.{Move, Allowed, after, run, AllAllowed}
 use Rattle.ch_race.specs.Invariant.{Invariant, IsReached}
 use Rattle.ch_race.proofs.Opens.{opens}

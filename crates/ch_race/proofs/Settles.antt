@@ -1,22 +1,21 @@
 -- Settling ends: a pair that isn't still has a visit, each visit lowers the weight, and then the timers lead to rest.
-use Rattle.std.proofs.Common.{◌≡◌, ◌≢◌, ◌⊎◌, inl, inr, ◌<◌, ◌≤◌, ℕ, zero, suc, ◌+◌, nat_eq, nat_lt, Bool, true, false, List, [], ◌∷◌, ◌++◌, length, refl, ap, sym, ◌∙◌, subst, arith}
+use Rattle.std.proofs.Common.{◌≡◌, ◌⊎◌, inl, inr, ◌<◌, ◌≤◌, ℕ, zero, suc, ◌+◌, nat_eq, nat_lt, Bool, true, false, List, [], ◌∷◌, ◌++◌, length, refl, ap, sym, ◌∙◌, subst, arith}
 use Rattle.std.proofs.lemmas.Bool.Decides.{nat_tests}
 use Rattle.ch_link.specs.declared.LinkState.{LinkState}
 use Rattle.ch_link.specs.declared.LinkState.TheVariants.{Idle, Dialing, AwaitOther, Up}
 use Rattle.ch_link.specs.Table.{step_of}
 use Rattle.ch_link.specs.declared.LinkIn.TheVariants as inputs
 use Rattle.ch_race.specs.Pair.{Side, Lesser, Greater, is_greater, OEnd, OPending, OAsking, OUp, OEnded, TEnd, TPending, TOpen, TUp, TEnded, Item, Sock, Pair, point}
-use Rattle.ch_race.specs.Moves.{Move, obeys, Join, Come, Read_o, Read_t, End_o, End_t, Timer, after, Allowed, run, AllAllowed, IsTimed, IsOpen_o, IsOpen_t, IsStill, AllStill}
-use Rattle.ch_race.specs.Naming.{Naming}
-use Rattle.ch_race.specs.Rest.{Quiescent, AtRest}
+use Rattle.ch_race.specs.Moves.{Move, obeys, Join, Come, Read_o, Read_t, End_o, End_t, Timer, after, Allowed, run, AllAllowed, IsTimed, IsOpen_o, IsOpen_t, IsStill, AllStill, AtRest}
+use Rattle.ch_race.specs.Rest.{Quiescent}
 use Rattle.ch_race.specs.Measure.{total}
-use Rattle.ch_race.specs.Settle.{Bounded, Beyond, Visits, AllVisits, timer_of, timers}
+use Rattle.ch_race.specs.Settle.{Beyond, Visits, AllVisits, timer_of, timers}
 use Rattle.ch_race.specs.Invariant.{Invariant}
 use Rattle.ch_race.proofs.Frame.{by_test}
 use Rattle.ch_race.proofs.Opens.{opens, late_row}
 use Rattle.ch_race.proofs.QuietMoves.{when_still}
 use Rattle.ch_race.proofs.Measures.{visit_lowers, unread_expected_o, unread_expected_t}
-use Rattle.ch_race.proofs.Runs.{invariant_after}
+use Rattle.ch_race.proofs.Runs.{invariant_after, invariant_run}
 use Rattle.ch_race.proofs.Within.{bounded, beyond_after, visit_within}
 
 pub lowers : (n : ℕ) (m : Move) (p : Pair) → Invariant p → Beyond n p → Allowed m p → Visits n m p → total n (after m p).sock < total n p.sock
@@ -28,7 +27,7 @@ any_order n [] p v b are visits = omega arith
 any_order n (m ∷ ms) p v b (is, are) (visit, visits) =
     let less : total n (after m p).sock < total n p.sock = lowers n m p v b is visit in
     let rest : length ms + total n (run ms (after m p)).sock ≤ total n (after m p).sock =
-        any_order n ms (after m p) (invariant_after m p is v) (beyond_after n m p is (visit_within n m p visit) v.named b) are visits in
+    any_order n ms (after m p) (invariant_after m p is v) (beyond_after n m p is (visit_within n m p visit) v.named b) are visits in
     omega arith
 
 -- what an end has to do
@@ -183,37 +182,45 @@ abbrev Rounds : List Move → Pair → Type 0
 Rounds ms p = AllAllowed ms p × AtRest (run ms p)
 
 fires : (x : Side) (p : Pair) → p.link x ≡ AwaitOther → after (Timer x) p ≡ point x Idle p
-fires x p e = ap (λ (k : LinkState). obeys x k 0 (step_of k inputs.Late (is_greater x)) p) e ∙ late_row x AwaitOther p tt
+fires x p e = ap (λ (k : LinkState). obeys x k 0 (step_of k inputs.Late (is_greater x)) p) e ∙ late_row x AwaitOther p refl
 
 one : (x : Side) (p : Pair) (ms : List Move) → p.link x ≡ AwaitOther → AllStill p → Rounds ms (point x Idle p) → Rounds (Timer x ∷ ms) p
 one x p ms e still r =
     let next : Rounds ms (after (Timer x) p) = subst (Rounds ms) (sym (fires x p e)) r in
-    (((subst IsTimed (sym e) tt, still), next.0), next.1)
+    (((subst IsTimed (sym e) refl, still), next.0), next.1)
 
 done : (p : Pair) → AllStill p → (IsTimed (p.link Lesser) → ⊥) → (IsTimed (p.link Greater) → ⊥) → Rounds [] p
 done p still l g = (tt, record { still = still; lesser = l; greater = g })
 
+not_true : false ≡ true → ⊥
+not_true e = cc
+
 idle_off : (k : LinkState) → k ≡ Idle → IsTimed k → ⊥
-idle_off k e h = subst IsTimed e h
+idle_off k e h = not_true (subst IsTimed e h)
 
 up_off : (k : LinkState) (u : ℕ) → k ≡ Up u false → IsTimed k → ⊥
-up_off k u e h = clash (subst IsTimed e h) where
-  clash : false ≡ true → ⊥
-  clash f = cc
+up_off k u e h = not_true (subst IsTimed e h)
 
 last : (q : Pair) (b : LinkState) → q.link Greater ≡ b → AllStill q → ((u : ℕ) → q.link Greater ≡ Up u true → ⊥) → ((d : ℕ) → q.link Greater ≡ Dialing d → ⊥) → (IsTimed (q.link Lesser) → ⊥) → Rounds (timer_of Greater b) q
 last q Idle e still up dials l = done q still l (idle_off _ e)
 last q (Up u false) e still up dials l = done q still l (up_off _ u e)
 last q (Up u true) e still up dials l = absurd (up u e)
 last q (Dialing d) e still up dials l = absurd (dials d e)
-last q AwaitOther e still up dials l = one Greater q [] e still (done (point Greater Idle q) still l (λ h. h))
+last q AwaitOther e still up dials l = one Greater q [] e still (done (point Greater Idle q) still l not_true)
 
 first : (p : Pair) (a b : LinkState) → p.link Lesser ≡ a → p.link Greater ≡ b → AllStill p → Quiescent p → Rounds (timer_of Lesser a ++ timer_of Greater b) p
 first p Idle b e f still quiet = last p b f still (quiet.no_probe Greater) (quiet.no_dial Greater) (idle_off _ e)
 first p (Up u false) b e f still quiet = last p b f still (quiet.no_probe Greater) (quiet.no_dial Greater) (up_off _ u e)
 first p (Up u true) b e f still quiet = absurd (quiet.no_probe Lesser u e)
 first p (Dialing d) b e f still quiet = absurd (quiet.no_dial Lesser d e)
-first p AwaitOther b e f still quiet = one Lesser p (timer_of Greater b) e still (last (point Lesser Idle p) b f still (quiet.no_probe Greater) (quiet.no_dial Greater) (λ h. h))
+first p AwaitOther b e f still quiet = one Lesser p (timer_of Greater b) e still (last (point Lesser Idle p) b f still (quiet.no_probe Greater) (quiet.no_dial Greater) not_true)
 
 pub rests : (p : Pair) → Invariant p → AllStill p → AllAllowed (timers p) p × AtRest (run (timers p) p)
 rests p v still = first p (p.link Lesser) (p.link Greater) refl refl still (when_still p v still)
+
+pub settles : (n : ℕ) (p : Pair) → Invariant p → Beyond n p → (ms : List Move) × AllAllowed ms p × AllVisits n ms p × (length ms ≤ total n p.sock) × AllAllowed (timers (run ms p)) (run ms p) × AtRest (run (timers (run ms p)) (run ms p))
+settles n p v b =
+    let found : Quiets n p = visits n p v b in
+    let at_most : length found.0 + total n (run found.0 p).sock ≤ total n p.sock = any_order n found.0 p v b found.1 found.2 in
+    let last = rests (run found.0 p) (invariant_run found.0 p found.1 v) found.3 in
+    (found.0, found.1, found.2, omega arith, last.0, last.1)

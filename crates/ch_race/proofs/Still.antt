@@ -152,14 +152,16 @@ module _ (p : Pair) (n : Naming p) (ws : Worded p) (pr : Probing p) (still : (i 
     runs_at Greater = (both_running _ _ h).1
 
     waits : (x : Side) → p.link x ≡ AwaitOther → (x ≡ Lesser) × Dialed p
-    waits Lesser e = absurd (l (subst IsTimed (sym e) tt))
-    waits Greater e = absurd (g (subst IsTimed (sym e) tt))
+    waits Lesser e = absurd (l (subst IsTimed (sym e) refl))
+    waits Greater e = absurd (g (subst IsTimed (sym e) refl))
 
   -- no timer in a quiet pair
   pub no_timer : (x : Side) → Quiet p → IsTimed (p.link x) → ⊥
   no_timer x h timed = by_link (p.link x) refl timed where
     by_link : (k : LinkState) → p.link x ≡ k → IsTimed k → ⊥
-    by_link Idle e t = t
+    by_link Idle e t = absurd (never t) where
+      never : false ≡ true → ⊥
+      never f = cc
     by_link (Dialing i) e t = quiescent.no_dial x i e
     by_link AwaitOther e t = let d = dialed_tells (p.link Greater) p.sock (h.awaits x e).1 in quiescent.no_dial Greater d.0 d.1
     by_link (Up i b) e t = quiescent.no_probe x i (e ∙ ap (λ (c : Bool). Up i c) t)

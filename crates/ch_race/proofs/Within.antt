@@ -6,10 +6,10 @@ use Rattle.ch_link.specs.declared.LinkState.{LinkState}
 use Rattle.ch_link.specs.declared.LinkState.TheVariants.{Idle, Dialing, AwaitOther, Up}
 use Rattle.ch_race.specs.Pair.{Side, Lesser, Greater, other, OEnd, OAsking, OUp, OEnded, TEnd, TOpen, TUp, TEnded, Item, Request, Accepted, Crossed, Invalid, EndClosed, Probe, Ack, Data, Sock, Pair, put, to_o, to_t, end_o, end_t, end_of, says, fresh, start}
 use Rattle.ch_race.specs.Moves.{Move, Want, Join, Come, Read_o, Read_t, End_o, End_t, Refuse, Lose_o, Lose_t, Cut_o, Cut_t, Late, Timer, Shut, Say, Settled, after, Allowed, run, AllAllowed, say, troubled, shutting}
-use Rattle.ch_race.specs.Naming.{Not, role, Naming}
+use Rattle.ch_race.specs.Naming.{Naming}
 use Rattle.ch_race.specs.Settle.{Bounded, Beyond, IsWithin, AllWithin, Visits}
-use Rattle.ch_race.specs.Invariant.{Invariant, IsReachedWithin}
-use Rattle.ch_race.proofs.Opened.{opened, let_go, fail, gone_o, gone_t, accept, decline, probe, answer, request, read_t, read_o, shut_down}
+use Rattle.ch_race.specs.Invariant.{Invariant, IsReached, IsReachedWithin}
+use Rattle.ch_race.proofs.Opened.{opened, let_go, fail, gone_o, gone_t, decline, answer, request, read_t, read_o, shut_down}
 use Rattle.ch_race.proofs.Frame.{by_test, self_number, put_there}
 use Rattle.ch_race.proofs.Names.{dead_unnamed, named_not}
 use Rattle.ch_race.proofs.Opens.{opens}
@@ -131,6 +131,9 @@ beyond_after n m p is h nm b = subst (Beyond n) (sym (opens m p is nm)) (beyond_
 pub beyond_run : (n : ℕ) (ms : List Move) (p : Pair) → AllAllowed ms p → AllWithin n ms → Invariant p → Beyond n p → Beyond n (run ms p)
 beyond_run n [] p are hs v b = b
 beyond_run n (m ∷ ms) p (is, are) (h, hs) v b = beyond_run n ms (after m p) are hs (invariant_after m p is v) (beyond_after n m p is h v.named b)
+
+pub reached : (n : ℕ) (p : Pair) → IsReachedWithin n p → IsReached p
+reached n p r = (r.0, r.1, r.2, r.4)
 
 pub beyond_reached : (n : ℕ) (p : Pair) → IsReachedWithin n p → Beyond n p
 beyond_reached n p r = subst (Beyond n) r.4 (beyond_run n r.1 (start r.0) r.2 r.3 (invariant_start r.0) (λ j h. (refl, refl)))

@@ -4,12 +4,12 @@ use Rattle.ch_link.specs.declared.LinkState.{LinkState}
 use Rattle.ch_link.specs.declared.LinkState.TheVariants.{Idle, Dialing, AwaitOther, Up}
 use Rattle.ch_race.specs.Pair.{Side, Lesser, Greater, other, same, OEnd, OPending, OAsking, OUp, OEnded, TEnd, TPending, TOpen, TUp, TEnded, Item, Request, Accepted, Crossed, Invalid, EndClosed, Probe, Ack, Data, Sock, Pair, start, put, to_o, to_t, end_o, end_t, end_of, says, fresh}
 use Rattle.ch_link.specs.Sockets.{names}
-use Rattle.ch_race.specs.Moves.{Move, shutting, Want, Join, Come, Read_o, Read_t, End_o, End_t, Refuse, Lose_o, Lose_t, Cut_o, Cut_t, Late, Timer, Shut, Say, Settled, Allowed, run, AllAllowed, say, troubled}
+use Rattle.ch_race.specs.Moves.{Move, shutting, Want, Join, Come, Read_o, Read_t, End_o, End_t, Refuse, Lose_o, Lose_t, Cut_o, Cut_t, Late, Timer, Shut, Say, Settled, Allowed, say, troubled}
 use Rattle.ch_race.proofs.Opened.{let_go, fail, gone_o, gone_t, accept, decline, probe, answer, request, read_t, read_o, shut_down, opened}
 use Rattle.ch_race.specs.Naming.{Not, IsUp, role, role_o, role_t, Naming}
 use Rattle.ch_race.specs.Words.{Frames, Answers, Words, Worded}
 use Rattle.ch_race.proofs.Frame.{by_test, same_number, self_number, put_here, put_there}
-use Rattle.ch_race.proofs.Names.{IsSideOf, Own, Peer, side_of, same_self, same_peer, decline_keeps, keeps}
+use Rattle.ch_race.proofs.Names.{IsSideOf, Own, Peer, side_of, same_self, same_peer, decline_keeps}
 use Rattle.ch_race.proofs.Words.{end_o_words, end_t_words, to_t_words, to_o_words, accept_words, decline_words, join_words, come_words, cut_o_words, cut_t_words, shut_o_words, shut_t_words, closed_t_words, closed_o_words, next_t_words, next_o_words, ack_o_words, ack_t_words, raised_words, fresh_words, dead_words}
 
 abbrev WordsOf : Pair → Sock → Type 0

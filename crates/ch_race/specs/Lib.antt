@@ -9,3 +9,4 @@ pub mod Measure
 pub mod Settle
 pub mod Payloads
 pub mod Invariant
+pub mod Rows

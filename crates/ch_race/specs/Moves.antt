@@ -1,7 +1,7 @@
 -- What may happen next, and what it leads to. Whatever a link hears it answers by its table.
-use Rattle.std.specs.Prelude.{◌≡◌, ◌≢◌, ◌⊎◌, ℕ, nat_eq, Bool, true, false, cond, not, ◌||◌, List, [], ◌∷◌}
+use Rattle.std.specs.Prelude.{◌≡◌, ◌≢◌, ◌⊎◌, ℕ, Bool, true, false, cond, not, ◌||◌, List, [], ◌∷◌}
 use Rattle.ch_link.specs.Table.{step_of}
-use Rattle.ch_link.specs.Sockets.{names}
+use Rattle.ch_link.specs.Sockets.{names, timer_runs}
 use Rattle.ch_link.specs.declared.LinkState.{LinkState}
 use Rattle.ch_link.specs.declared.LinkState.TheVariants.{Idle, Dialing, AwaitOther, Up}
 use Rattle.ch_link.specs.declared.LinkIn.{LinkIn}
@@ -153,10 +153,7 @@ after m p = after_by step_of m p
 
 -- a timer runs for the link
 abbrev pub IsTimed : LinkState → Type 0
-IsTimed Idle = ⊥
-IsTimed (Dialing i) = Unit {0}
-IsTimed AwaitOther = Unit {0}
-IsTimed (Up i probed) = probed ≡ true
+IsTimed k = timer_runs k ≡ true
 
 -- the opener's end reads
 abbrev pub IsOpen_o : OEnd → Type 0
@@ -183,6 +180,12 @@ pub record IsStill (s : Sock) : Type 0 where
 abbrev pub AllStill : Pair → Type 0
 AllStill p = (i : ℕ) → IsStill (p.sock i)
 
+-- nothing is to be done at the sockets, and no timer runs
+pub record AtRest (p : Pair) : Type 0 where
+  pub still : AllStill p
+  pub lesser : IsTimed (p.link Lesser) → ⊥
+  pub greater : IsTimed (p.link Greater) → ⊥
+
 -- when a move may happen
 abbrev pub Allowed : Move → Pair → Type 0
 Allowed (Want x i) p = (p.link x ≡ Idle) × (p.shut x ≡ false) × ((p.sock i).o ≡ OEnded) × ((p.sock i).t ≡ TEnded)
@@ -201,7 +204,7 @@ Allowed (Late x) p = IsTimed (p.link x)
 Allowed (Timer x) p = IsTimed (p.link x) × AllStill p
 Allowed (Shut x) p = p.shut x ≡ false
 Allowed (Say x) p = Unit {0}
-Allowed Settled p = AllStill p × (IsTimed (p.link Lesser) → ⊥) × (IsTimed (p.link Greater) → ⊥)
+Allowed Settled p = AtRest p
 
 -- the pair after the moves, with that table
 abbrev pub run_by : Table → List Move → Pair → Pair

@@ -1,7 +1,7 @@
 -- Two nodes and the sockets between them, as far as their race goes: which ends stand, and what is unread.
 use Rattle.std.specs.Prelude.{ℕ, nat_eq, Bool, true, false, cond, not, ◌||◌, List, [], ◌∷◌, ◌++◌}
 use Rattle.ch_link.specs.declared.LinkState.{LinkState}
-use Rattle.ch_link.specs.declared.LinkState.TheVariants.{Idle, Dialing, AwaitOther, Up}
+use Rattle.ch_link.specs.declared.LinkState.TheVariants.{Idle}
 
 -- the node of the lesser address, and that of the greater
 pub data Side : Type 0 where

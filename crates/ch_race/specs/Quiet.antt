@@ -94,4 +94,3 @@ NoBreak p = (m : Move) → p.quiet ≡ true → Allowed m p → Breaks m p → �
 -- what makes a link fail comes only from a node that is shut, quiet or not
 abbrev pub Licensed : Pair → Type 0
 Licensed p = (i : ℕ) → (Breaks_o (p.sock i).o (p.sock i).in_o → p.shut (other (p.sock i).opener) ≡ true) × (Breaks_t (p.sock i).t (p.sock i).in_t → p.shut (p.sock i).opener ≡ true)
-

@@ -1,8 +1,8 @@
--- Where nothing is left to do.
+-- Where nothing is left to do at the sockets.
 use Rattle.std.specs.Prelude.{◌≡◌, ℕ, Bool, true, false}
 use Rattle.ch_link.specs.declared.LinkState.TheVariants.{Dialing, Up}
-use Rattle.ch_race.specs.Pair.{Side, Lesser, Greater, other, Pair}
-use Rattle.ch_race.specs.Moves.{AllStill, IsTimed}
+use Rattle.ch_race.specs.Pair.{Side, other, Pair}
+use Rattle.ch_race.specs.Moves.{AllStill}
 
 -- no link dials, none is probed, and a node that is up is up with the other, on the same socket
 pub record Quiescent (p : Pair) : Type 0 where
@@ -13,9 +13,3 @@ pub record Quiescent (p : Pair) : Type 0 where
 -- it is so wherever nothing is to be done at the sockets
 abbrev pub WhenStill : Pair → Type 0
 WhenStill p = AllStill p → Quiescent p
-
--- nothing is to be done at the sockets, and no timer runs
-pub record AtRest (p : Pair) : Type 0 where
-  pub still : AllStill p
-  pub lesser : IsTimed (p.link Lesser) → ⊥
-  pub greater : IsTimed (p.link Greater) → ⊥

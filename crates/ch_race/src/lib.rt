@@ -1,11 +1,124 @@
-//! The race of two nodes' requests, as a machine, and the laws of all its runs.
+//! The race of two nodes for one socket, as a machine, and the laws of all its runs.
+//!
+//! No code: definitions, and laws as clauses of empty functions. A link answers all that it hears by the table of
+//! `ch_link`, below. Above stand the laws of a whole world, whose steps are moves of this machine.
 #![tactic(auto)]
 
-ghost use Rattle.std.specs.Prelude.{◌≡◌, Bool};
-ghost use Rattle.ch_race.specs.Pair.{Side, start};
-ghost use Rattle.ch_race.specs.Invariant.{Invariant};
+ghost use Rattle.std.specs.Prelude.{◌≡◌, ◌≤◌, ◌⊎◌, ℕ, ◌+◌, List, [], length, true, false};
+ghost use Rattle.ch_race.specs.Pair.{Side, Lesser, Greater, Pair, OAsking, OUp, TUp, two_nodes};
+ghost use Rattle.ch_race.specs.Moves.{Move, Allowed, after, run, run_by, AllAllowed, AllAllowedBy, AllStill, AtRest, End_t};
+ghost use Rattle.ch_race.specs.Naming.{Naming, OneLive, Bundle, ComesUpFree, role, role_o, Asks, Not};
+ghost use Rattle.ch_race.specs.Words.{Worded};
+ghost use Rattle.ch_race.specs.Probes.{Probing, is_probe, is_ack, count, flag};
+ghost use Rattle.ch_race.specs.Quiet.{Quieted, NoBreak, Licensed, Breaks};
+ghost use Rattle.ch_race.specs.Rest.{WhenStill};
+ghost use Rattle.ch_race.specs.Measure.{total};
+ghost use Rattle.ch_race.specs.Settle.{Visits, AllVisits, AllWithin, timers};
+ghost use Rattle.ch_race.specs.Payloads.{payloads, unread, all_said, all_got, StaysQuiet};
+ghost use Rattle.ch_race.specs.Invariant.{IsReached, IsReachedWithin};
+ghost use Rattle.ch_race.specs.Rows.{both_dial, lesser_reads_first, greater_reads_first, both_read, both_answered, stale_read, lesser_asked, both_accept, both_cross, never_probes, never_leaves};
+ghost use Rattle.ch_link.specs.declared.LinkState.TheVariants.{AwaitOther, Up};
 
-/// The invariant holds at the start.
-pub fn begins()
-    ensures { (away : Side → Bool) → Invariant (start away) }
+/// Ends and links name the same sockets, whatever is lost or late. So at most one socket is live, and beside a live
+/// socket no node is up on another, nor dials one. A target comes up only while it is up on nothing, and while the
+/// opener, unless it has left, dials this very socket.
+pub fn one_live_socket()
+    ensures named { (p : Pair) → IsReached p → Naming p }
+    ensures one { (p : Pair) → IsReached p → OneLive p }
+    ensures bundle { (p : Pair) → IsReached p → Bundle p }
+    ensures comes_up { (p : Pair) → IsReached p → (m : Move) → Allowed m p → ComesUpFree p (after m p) }
+{}
+
+/// What stands unread on a socket is told by the states of its two ends; and of each probed link the probe, or the
+/// acknowledgement, is under way, unless an end has ended or something was lost.
+pub fn unread_items()
+    ensures words { (p : Pair) → IsReached p → Worded p }
+    ensures probes { (p : Pair) → IsReached p → Probing p }
+{}
+
+/// While nothing was lost, late or shut since all was settled, no move breaks a link. Whatever was lost, a node hears
+/// that the other's endpoint is closed, or isn't there, only from one that is shut.
+pub fn nothing_breaks()
+    ensures quiet { (p : Pair) → IsReached p → Quieted p }
+    ensures no_break { (p : Pair) → IsReached p → NoBreak p }
+    ensures licensed { (p : Pair) → IsReached p → Licensed p }
+{}
+
+/// Where nothing is to be done at the sockets, no link dials, none is probed, and a node that is up is up with the
+/// other on the same socket.
+pub fn at_rest()
+    ensures { (p : Pair) → IsReached p → WhenStill p }
+{}
+
+/// Settling ends. Visits in any order are no more than the weight of what was to be done; where not all is still there
+/// is a visit to do; where all is still, one round of timers, of nodes that await the other, leads to rest. So from each
+/// pair that is reached at most so many visits as its weight, and then the timers, lead to rest.
+pub fn settling_ends()
+    ensures any_order { (n : ℕ) (p : Pair) → IsReachedWithin n p → (moves : List Move) → AllAllowed moves p → AllVisits n moves p
+        → length moves + total n (run moves p).sock ≤ total n p.sock }
+    ensures goes_on { (n : ℕ) (p : Pair) → IsReachedWithin n p → AllStill p ⊎ ((m : Move) × Allowed m p × Visits n m p) }
+    ensures timers { (p : Pair) → IsReached p → AllStill p → AllAllowed (timers p) p × AtRest (run (timers p) p) }
+    ensures settles { (n : ℕ) (p : Pair) → IsReachedWithin n p → (moves : List Move) × AllAllowed moves p × AllVisits n moves p
+        × (length moves ≤ total n p.sock) × AllAllowed (timers (run moves p)) (run moves p) × AtRest (run (timers (run moves p)) (run moves p)) }
+{}
+
+/// What is said in a quiet pair is read. Over moves that keep it quiet no payload is dropped: those that were unread
+/// and those that are written are those that are read and those that are still unread. Where all is still none is unread.
+pub fn payloads_are_read()
+    ensures none_dropped { (n : ℕ) (p : Pair) → IsReachedWithin n p → (moves : List Move) → AllAllowed moves p → AllWithin n moves → StaysQuiet moves p
+        → all_said moves p + unread n p ≡ all_got moves p + unread n (run moves p) }
+    ensures none_unread { (p : Pair) → IsReached p → AllStill p → (i : ℕ) → payloads (p.sock i) ≡ 0 }
+    ensures all_read { (n : ℕ) (p : Pair) → IsReachedWithin n p → (moves : List Move) → AllAllowed moves p → AllWithin n moves → StaysQuiet moves p → AllStill (run moves p)
+        → all_said moves p + unread n p ≡ all_got moves p }
+{}
+
+/// Two requests that cross, computed: one socket comes up, the greater node's, whoever reads first.
+#[tactic(auto, unfolding(ch_link::specs::Table::step_of))]
+pub fn crossed_requests()
+    ensures allowed { AllAllowed lesser_reads_first two_nodes }
+    ensures lesser { (run lesser_reads_first two_nodes).link Lesser ≡ Up 1 false }
+    ensures greater { (run lesser_reads_first two_nodes).link Greater ≡ Up 1 false }
+    ensures quiet { (run lesser_reads_first two_nodes).quiet ≡ true }
+    ensures crossed_allowed { AllAllowed greater_reads_first two_nodes }
+    ensures awaits { (run greater_reads_first two_nodes).link Lesser ≡ AwaitOther }
+{}
+
+/// Were both requests accepted, each node would be up on a socket that the other has left, and a quiet pair would
+/// break: an end of input is to be read on a socket that a link names. `nothing_breaks` forbids it.
+#[tactic(auto, unfolding(ch_link::specs::Table::step_of))]
+pub fn both_accepting()
+    ensures allowed { AllAllowedBy both_accept both_read two_nodes }
+    ensures quiet { (run_by both_accept both_read two_nodes).quiet ≡ true }
+    ensures may_end { Allowed (End_t 0) (run_by both_accept both_read two_nodes) }
+    ensures breaks { Breaks (End_t 0) (run_by both_accept both_read two_nodes) }
+{}
+
+/// Were both crossed, each node would await the other for ever. `nothing_breaks` says that in a quiet pair only the
+/// lesser node awaits.
+#[tactic(auto, unfolding(ch_link::specs::Table::step_of))]
+pub fn both_crossing()
+    ensures allowed { AllAllowedBy both_cross both_answered two_nodes }
+    ensures quiet { (run_by both_cross both_answered two_nodes).quiet ≡ true }
+    ensures lesser { (run_by both_cross both_answered two_nodes).link Lesser ≡ AwaitOther }
+    ensures greater { (run_by both_cross both_answered two_nodes).link Greater ≡ AwaitOther }
+{}
+
+/// Were no probe written, a link would stay probed with nothing under way on its socket, both ends up and nothing lost.
+/// `unread_items` accounts for each probe.
+#[tactic(auto, unfolding(ch_link::specs::Table::step_of))]
+pub fn no_probe()
+    ensures allowed { AllAllowedBy never_probes stale_read two_nodes }
+    ensures probed { flag ((run_by never_probes stale_read two_nodes).link Greater) ≡ true }
+    ensures up_o { ((run_by never_probes stale_read two_nodes).sock 1).o ≡ OUp }
+    ensures up_t { ((run_by never_probes stale_read two_nodes).sock 1).t ≡ TUp }
+    ensures nothing { count is_probe ((run_by never_probes stale_read two_nodes).sock 1).in_t + count is_ack ((run_by never_probes stale_read two_nodes).sock 1).in_o ≡ 0 }
+{}
+
+/// Were the own dial not left, its end would ask on while its link names another socket. `one_live_socket` says that
+/// ends and links name the same.
+#[tactic(auto, unfolding(ch_link::specs::Table::step_of))]
+pub fn dial_not_left()
+    ensures allowed { AllAllowedBy never_leaves lesser_asked two_nodes }
+    ensures asks { role_o ((run_by never_leaves lesser_asked two_nodes).sock 0).o ≡ Asks }
+    ensures unnamed { role ((run_by never_leaves lesser_asked two_nodes).link Lesser) 0 ≡ Not }
 {}
