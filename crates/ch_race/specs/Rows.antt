@@ -7,11 +7,8 @@ use Rattle.ch_link.specs.declared.LinkAct.TheVariants.{Accept, Cross, LeaveAndAc
 use Rattle.ch_race.specs.Pair.{Lesser, Greater}
 use Rattle.ch_race.specs.Moves.{Move, Want, Join, Come, Read_o, Read_t, Table}
 
--- both dial, the lesser node on socket 0, the greater on socket 1, and both requests have come
-abbrev pub both_dial : List Move
-both_dial = Want Lesser 0 ∷ Want Greater 1 ∷ Join 0 ∷ Join 1 ∷ Come 0 ∷ Come 1 ∷ []
-
--- then the lesser node reads first, and leaves its own dial; the greater is up, reads the stale request and probes
+-- both dial, the lesser node on socket 0, the greater on socket 1, and both requests come. The lesser node reads first,
+-- and leaves its own dial; the greater is up, reads the stale request, crosses it and probes
 abbrev pub lesser_reads_first : List Move
 lesser_reads_first = Want Lesser 0 ∷ Want Greater 1 ∷ Join 0 ∷ Join 1 ∷ Come 0 ∷ Come 1 ∷ Read_t 1 ∷ Read_o 1 ∷ Read_t 0 ∷ Read_t 1 ∷ Read_o 1 ∷ []
 

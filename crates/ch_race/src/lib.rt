@@ -5,18 +5,18 @@
 #![tactic(auto)]
 
 ghost use Rattle.std.specs.Prelude.{◌≡◌, ◌≤◌, ◌⊎◌, ℕ, ◌+◌, List, [], length, true, false};
-ghost use Rattle.ch_race.specs.Pair.{Side, Lesser, Greater, Pair, OAsking, OUp, TUp, two_nodes};
-ghost use Rattle.ch_race.specs.Moves.{Move, Allowed, after, run, run_by, AllAllowed, AllAllowedBy, AllStill, AtRest, End_t};
-ghost use Rattle.ch_race.specs.Naming.{Naming, OneLive, Bundle, ComesUpFree, role, role_o, Asks, Not};
+ghost use Rattle.ch_race.specs.Pair.{Side, Lesser, Greater, Pair, OAsking, two_nodes};
+ghost use Rattle.ch_race.specs.Moves.{Move, Allowed, after, run, run_by, AllAllowed, AllAllowedBy, AllStill, AtRest};
+ghost use Rattle.ch_race.specs.Naming.{Naming, OneLive, Bundle, ComesUpFree};
 ghost use Rattle.ch_race.specs.Words.{Worded};
-ghost use Rattle.ch_race.specs.Probes.{Probing, is_probe, is_ack, count, flag};
-ghost use Rattle.ch_race.specs.Quiet.{Quieted, NoBreak, Licensed, Breaks};
+ghost use Rattle.ch_race.specs.Probes.{Probing};
+ghost use Rattle.ch_race.specs.Quiet.{Quieted, NoBreak, Licensed};
 ghost use Rattle.ch_race.specs.Rest.{WhenStill};
 ghost use Rattle.ch_race.specs.Measure.{total};
 ghost use Rattle.ch_race.specs.Settle.{Visits, AllVisits, AllWithin, timers};
 ghost use Rattle.ch_race.specs.Payloads.{payloads, unread, all_said, all_got, StaysQuiet};
 ghost use Rattle.ch_race.specs.Invariant.{IsReached, IsReachedWithin};
-ghost use Rattle.ch_race.specs.Rows.{both_dial, lesser_reads_first, greater_reads_first, both_read, both_answered, stale_read, lesser_asked, both_accept, both_cross, never_probes, never_leaves};
+ghost use Rattle.ch_race.specs.Rows.{lesser_reads_first, greater_reads_first, both_read, both_answered, stale_read, lesser_asked, both_accept, both_cross, never_probes, never_leaves};
 ghost use Rattle.ch_link.specs.declared.LinkState.TheVariants.{AwaitOther, Up};
 
 /// Ends and links name the same sockets, whatever is lost or late. So at most one socket is live, and beside a live
@@ -84,13 +84,13 @@ pub fn crossed_requests()
 {}
 
 /// Were both requests accepted, each node would be up on a socket that the other has left, and a quiet pair would
-/// break: an end of input is to be read on a socket that a link names. `nothing_breaks` forbids it.
+/// break. `nothing_breaks` forbids it.
 #[tactic(auto, unfolding(ch_link::specs::Table::step_of))]
 pub fn both_accepting()
     ensures allowed { AllAllowedBy both_accept both_read two_nodes }
-    ensures quiet { (run_by both_accept both_read two_nodes).quiet ≡ true }
-    ensures may_end { Allowed (End_t 0) (run_by both_accept both_read two_nodes) }
-    ensures breaks { Breaks (End_t 0) (run_by both_accept both_read two_nodes) }
+    ensures lesser { (run_by both_accept both_read two_nodes).link Lesser ≡ Up 1 false }
+    ensures greater { (run_by both_accept both_read two_nodes).link Greater ≡ Up 0 false }
+    ensures forbidden { NoBreak (run_by both_accept both_read two_nodes) → ⊥ }
 {}
 
 /// Were both crossed, each node would await the other for ever. `nothing_breaks` says that in a quiet pair only the
@@ -98,20 +98,20 @@ pub fn both_accepting()
 #[tactic(auto, unfolding(ch_link::specs::Table::step_of))]
 pub fn both_crossing()
     ensures allowed { AllAllowedBy both_cross both_answered two_nodes }
-    ensures quiet { (run_by both_cross both_answered two_nodes).quiet ≡ true }
     ensures lesser { (run_by both_cross both_answered two_nodes).link Lesser ≡ AwaitOther }
     ensures greater { (run_by both_cross both_answered two_nodes).link Greater ≡ AwaitOther }
+    ensures forbidden { Quieted (run_by both_cross both_answered two_nodes) → ⊥ }
 {}
 
-/// Were no probe written, a link would stay probed with nothing under way on its socket, both ends up and nothing lost.
-/// `unread_items` accounts for each probe.
+/// Were no probe written, a link would stay probed with nothing under way on its socket. `unread_items` accounts for
+/// each probe.
 #[tactic(auto, unfolding(ch_link::specs::Table::step_of))]
 pub fn no_probe()
     ensures allowed { AllAllowedBy never_probes stale_read two_nodes }
-    ensures probed { flag ((run_by never_probes stale_read two_nodes).link Greater) ≡ true }
-    ensures up_o { ((run_by never_probes stale_read two_nodes).sock 1).o ≡ OUp }
-    ensures up_t { ((run_by never_probes stale_read two_nodes).sock 1).t ≡ TUp }
-    ensures nothing { count is_probe ((run_by never_probes stale_read two_nodes).sock 1).in_t + count is_ack ((run_by never_probes stale_read two_nodes).sock 1).in_o ≡ 0 }
+    ensures probed { (run_by never_probes stale_read two_nodes).link Greater ≡ Up 1 true }
+    ensures nothing_o { ((run_by never_probes stale_read two_nodes).sock 1).in_o ≡ [] }
+    ensures nothing_t { ((run_by never_probes stale_read two_nodes).sock 1).in_t ≡ [] }
+    ensures forbidden { Probing (run_by never_probes stale_read two_nodes) → ⊥ }
 {}
 
 /// Were the own dial not left, its end would ask on while its link names another socket. `one_live_socket` says that
@@ -119,6 +119,7 @@ pub fn no_probe()
 #[tactic(auto, unfolding(ch_link::specs::Table::step_of))]
 pub fn dial_not_left()
     ensures allowed { AllAllowedBy never_leaves lesser_asked two_nodes }
-    ensures asks { role_o ((run_by never_leaves lesser_asked two_nodes).sock 0).o ≡ Asks }
-    ensures unnamed { role ((run_by never_leaves lesser_asked two_nodes).link Lesser) 0 ≡ Not }
+    ensures asks { ((run_by never_leaves lesser_asked two_nodes).sock 0).o ≡ OAsking }
+    ensures link { (run_by never_leaves lesser_asked two_nodes).link Lesser ≡ Up 1 false }
+    ensures forbidden { Naming (run_by never_leaves lesser_asked two_nodes) → ⊥ }
 {}
