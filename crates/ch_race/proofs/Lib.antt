@@ -15,3 +15,4 @@ pub mod Rise
 pub mod Within
 pub mod Settles
 pub mod Delivers
+pub mod Holds

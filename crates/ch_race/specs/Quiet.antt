@@ -1,7 +1,7 @@
 -- What holds while nothing was lost since all was settled, and no node is shut: then no link breaks.
 use Rattle.std.specs.Prelude.{◌≡◌, ℕ, Bool, true, false, List, [], ◌∷◌}
 use Rattle.ch_link.specs.declared.LinkState.{LinkState}
-use Rattle.ch_link.specs.declared.LinkState.TheVariants.{Dialing, AwaitOther, Up}
+use Rattle.ch_link.specs.declared.LinkState.TheVariants.{Idle, Dialing, AwaitOther, Up}
 use Rattle.ch_race.specs.Pair.{Side, Lesser, Greater, other, OEnd, OPending, OAsking, OUp, OEnded, TEnd, TPending, TOpen, TUp, TEnded, Item, Crossed, Invalid, EndClosed, Sock, Pair}
 use Rattle.ch_link.specs.Sockets.{names}
 use Rattle.ch_race.specs.Moves.{Move, Allowed, Read_o, Read_t, End_o, End_t, Timer}
@@ -94,3 +94,7 @@ NoBreak p = (m : Move) → p.quiet ≡ true → Allowed m p → Breaks m p → �
 -- what makes a link fail comes only from a node that is shut, quiet or not
 abbrev pub Licensed : Pair → Type 0
 Licensed p = (i : ℕ) → (Breaks_o (p.sock i).o (p.sock i).in_o → p.shut (other (p.sock i).opener) ≡ true) × (Breaks_t (p.sock i).t (p.sock i).in_t → p.shut (p.sock i).opener ≡ true)
+
+-- no link has failed between the two: none is idle that wasn't
+abbrev pub NoFailure : Pair → Pair → Type 0
+NoFailure p q = (x : Side) → q.link x ≡ Idle → p.link x ≡ Idle

@@ -4,13 +4,13 @@
 //! `ch_link`, below. Above stand the laws of a whole world, whose steps are moves of this machine.
 #![tactic(auto)]
 
-ghost use Rattle.std.specs.Prelude.{◌≡◌, ◌≤◌, ◌⊎◌, ℕ, ◌+◌, List, [], length, true, false};
+ghost use Rattle.std.specs.Prelude.{◌≡◌, ◌<◌, ◌≤◌, ◌⊎◌, ℕ, ◌+◌, List, [], length, true, false};
 ghost use Rattle.ch_race.specs.Pair.{Side, Lesser, Greater, Pair, OAsking, two_nodes};
 ghost use Rattle.ch_race.specs.Moves.{Move, Allowed, after, run, run_by, AllAllowed, AllAllowedBy, AllStill, AtRest};
 ghost use Rattle.ch_race.specs.Naming.{Naming, OneLive, Bundle, ComesUpFree};
 ghost use Rattle.ch_race.specs.Words.{Worded};
 ghost use Rattle.ch_race.specs.Probes.{Probing};
-ghost use Rattle.ch_race.specs.Quiet.{Quieted, NoBreak, Licensed};
+ghost use Rattle.ch_race.specs.Quiet.{Quieted, NoBreak, NoFailure, Licensed};
 ghost use Rattle.ch_race.specs.Rest.{WhenStill};
 ghost use Rattle.ch_race.specs.Measure.{total};
 ghost use Rattle.ch_race.specs.Settle.{Visits, AllVisits, AllWithin, timers};
@@ -36,11 +36,13 @@ pub fn unread_items()
     ensures probes { (p : Pair) → IsReached p → Probing p }
 {}
 
-/// While nothing was lost, late or shut since all was settled, no move breaks a link. Whatever was lost, a node hears
-/// that the other's endpoint is closed, or isn't there, only from one that is shut.
+/// While nothing was lost, late or shut since all was settled, no move breaks a link: nothing that would is to be read,
+/// no timer runs out in settling, and no link becomes idle. Whatever was lost, a node hears that the other's endpoint is
+/// closed, or isn't there, only from one that is shut.
 pub fn nothing_breaks()
     ensures quiet { (p : Pair) → IsReached p → Quieted p }
     ensures no_break { (p : Pair) → IsReached p → NoBreak p }
+    ensures no_failure { (p : Pair) → IsReached p → (m : Move) → Allowed m p → p.quiet ≡ true → (after m p).quiet ≡ true → NoFailure p (after m p) }
     ensures licensed { (p : Pair) → IsReached p → Licensed p }
 {}
 
@@ -50,10 +52,11 @@ pub fn at_rest()
     ensures { (p : Pair) → IsReached p → WhenStill p }
 {}
 
-/// Settling ends. Visits in any order are no more than the weight of what was to be done; where not all is still there
+/// Settling ends. Each visit lowers the weight of what is to be done, so visits in any order are no more than it; where not all is still there
 /// is a visit to do; where all is still, one round of timers, of nodes that await the other, leads to rest. So from each
 /// pair that is reached at most so many visits as its weight, and then the timers, lead to rest.
 pub fn settling_ends()
+    ensures lowers { (n : ℕ) (p : Pair) → IsReachedWithin n p → (m : Move) → Allowed m p → Visits n m p → total n (after m p).sock < total n p.sock }
     ensures any_order { (n : ℕ) (p : Pair) → IsReachedWithin n p → (moves : List Move) → AllAllowed moves p → AllVisits n moves p
         → length moves + total n (run moves p).sock ≤ total n p.sock }
     ensures goes_on { (n : ℕ) (p : Pair) → IsReachedWithin n p → AllStill p ⊎ ((m : Move) × Allowed m p × Visits n m p) }
