@@ -13,8 +13,12 @@ abbrev pub lesser_reads_first : List Move
 lesser_reads_first = Want Lesser 0 ∷ Want Greater 1 ∷ Join 0 ∷ Join 1 ∷ Come 0 ∷ Come 1 ∷ Read_t 1 ∷ Read_o 1 ∷ Read_t 0 ∷ Read_t 1 ∷ Read_o 1 ∷ []
 
 -- or the greater node reads first, and crosses; the lesser awaits it
+abbrev pub greater_crosses : List Move
+greater_crosses = Want Lesser 0 ∷ Want Greater 1 ∷ Join 0 ∷ Join 1 ∷ Come 0 ∷ Come 1 ∷ Read_t 0 ∷ Read_o 0 ∷ []
+
+-- and then takes its request
 abbrev pub greater_reads_first : List Move
-greater_reads_first = Want Lesser 0 ∷ Want Greater 1 ∷ Join 0 ∷ Join 1 ∷ Come 0 ∷ Come 1 ∷ Read_t 0 ∷ Read_o 0 ∷ []
+greater_reads_first = Want Lesser 0 ∷ Want Greater 1 ∷ Join 0 ∷ Join 1 ∷ Come 0 ∷ Come 1 ∷ Read_t 0 ∷ Read_o 0 ∷ Read_t 1 ∷ Read_o 1 ∷ []
 
 -- or both read the other's request at once, before either answer is read
 abbrev pub both_read : List Move

@@ -16,7 +16,7 @@ ghost use Rattle.ch_race.specs.Measure.{total};
 ghost use Rattle.ch_race.specs.Settle.{Visits, AllVisits, AllWithin, timers};
 ghost use Rattle.ch_race.specs.Payloads.{payloads, unread, all_said, all_got, StaysQuiet};
 ghost use Rattle.ch_race.specs.Invariant.{IsReached, IsReachedWithin};
-ghost use Rattle.ch_race.specs.Rows.{lesser_reads_first, greater_reads_first, both_read, both_answered, stale_read, lesser_asked, both_accept, both_cross, never_probes, never_leaves};
+ghost use Rattle.ch_race.specs.Rows.{lesser_reads_first, greater_crosses, greater_reads_first, both_read, both_answered, stale_read, lesser_asked, both_accept, both_cross, never_probes, never_leaves};
 ghost use Rattle.ch_link.specs.declared.LinkState.TheVariants.{AwaitOther, Up};
 
 /// Ends and links name the same sockets, whatever is lost or late. So at most one socket is live, and beside a live
@@ -52,9 +52,9 @@ pub fn at_rest()
     ensures { (p : Pair) → IsReached p → WhenStill p }
 {}
 
-/// Settling ends. Each visit lowers the weight of what is to be done, so visits in any order are no more than it; where not all is still there
-/// is a visit to do; where all is still, one round of timers, of nodes that await the other, leads to rest. So from each
-/// pair that is reached at most so many visits as its weight, and then the timers, lead to rest.
+/// Settling ends. Each visit lowers the weight of what is to be done, so visits in any order are no more than it. Where
+/// not all is still there is a visit to do. Where all is still one round of timers, of nodes that await the other, leads
+/// to rest. So from each pair that is reached at most so many visits as its weight, and then the timers, lead to rest.
 pub fn settling_ends()
     ensures lowers { (n : ℕ) (p : Pair) → IsReachedWithin n p → (m : Move) → Allowed m p → Visits n m p → total n (after m p).sock < total n p.sock }
     ensures any_order { (n : ℕ) (p : Pair) → IsReachedWithin n p → (moves : List Move) → AllAllowed moves p → AllVisits n moves p
@@ -75,15 +75,16 @@ pub fn payloads_are_read()
         → all_said moves p + unread n p ≡ all_got moves p }
 {}
 
-/// Two requests that cross, computed: one socket comes up, the greater node's, whoever reads first.
+/// Two requests that cross, computed: the greater node's socket comes up, whoever reads first, and nothing is lost.
 #[tactic(auto, unfolding(ch_link::specs::Table::step_of))]
 pub fn crossed_requests()
-    ensures allowed { AllAllowed lesser_reads_first two_nodes }
-    ensures lesser { (run lesser_reads_first two_nodes).link Lesser ≡ Up 1 false }
-    ensures greater { (run lesser_reads_first two_nodes).link Greater ≡ Up 1 false }
-    ensures quiet { (run lesser_reads_first two_nodes).quiet ≡ true }
-    ensures crossed_allowed { AllAllowed greater_reads_first two_nodes }
-    ensures awaits { (run greater_reads_first two_nodes).link Lesser ≡ AwaitOther }
+    ensures lesser_first { AllAllowed lesser_reads_first two_nodes }
+    ensures lesser_first_up { ((run lesser_reads_first two_nodes).link Lesser ≡ Up 1 false) × ((run lesser_reads_first two_nodes).link Greater ≡ Up 1 false) }
+    ensures lesser_first_quiet { (run lesser_reads_first two_nodes).quiet ≡ true }
+    ensures greater_first { AllAllowed greater_reads_first two_nodes }
+    ensures greater_first_up { ((run greater_reads_first two_nodes).link Lesser ≡ Up 1 false) × ((run greater_reads_first two_nodes).link Greater ≡ Up 1 false) }
+    ensures greater_first_quiet { (run greater_reads_first two_nodes).quiet ≡ true }
+    ensures awaits { (run greater_crosses two_nodes).link Lesser ≡ AwaitOther }
 {}
 
 /// Were both requests accepted, each node would be up on a socket that the other has left, and a quiet pair would
