@@ -4,14 +4,14 @@ use Rattle.std.proofs.lemmas.Bool.Decides.{nat_tests}
 use Rattle.std.proofs.lemmas.Option.{slice_get-get_or}
 use Rattle.std.proofs.lemmas.List.Quantifiers.{position-Some}
 use Rattle.std.proofs.lemmas.List.Sums.{fails_before_first}
-use Rattle.std.specs.Prelude.{option_map}
+use Rattle.std.specs.Prelude.{MatchResult, OnErr, option_map}
 use Rattle.std.specs.List.{position_or_len}
 use Rattle.std.specs.Prelude.{slice_get, slice_set}
 use Rattle.ch_light.specs.declared.TheConstants.{FIRST_ID}
 use Rattle.ch_light.specs.declared.Connection.{Connection}
 use Rattle.ch_light.specs.declared.error.LightError.{LightError}
 use Rattle.ch_light.specs.declared.error.LightError.TheVariants.{NotOpen}
-use Rattle.ch_light.specs.Ids.{opened, closed, is_open_as, place_of, give_of, close_at, close_of, created_of, open_number, conn_of, closed_by, closed_of, id_of}
+use Rattle.ch_light.specs.Ids.{opened, closed, is_open_as, place_of, give_of, close_at, close_of, created_of, open_number, conn_of, closed_by, closed_of, id_of, Fails}
 use Rattle.ch_light.specs.Open.{ChangesOnly, OneEach}
 use Rattle.ch_light.proofs.Lists.{push_here, push_other, set_here, set_other}
 
@@ -220,3 +220,27 @@ still table new id n i changes h false a = sym (changes.others i (unequal_test _
 pub one_each_closed : (table new : List Connection) (id : ℕ) → OneEach table → ChangesOnly table new id (Err NotOpen) → OneEach new
 one_each_closed table new id one changes n i j hi hj =
     one n i j (still table new id n i changes hi (nat_eq i id) refl) (still table new id n j changes hj (nat_eq j id) refl)
+
+-- what is found after a give is the connection itself, or was found before
+no_new : (table new : List Connection) (number id n i : ℕ) → ChangesOnly table new id (Ok number) → n ≢ number → id_of table n ≡ None → conn_of new i ≡ Ok n → (a : Bool) → nat_eq i id ≡ a → ⊥
+no_new table new number id n i changes other free at true a =
+    let here : conn_of new i ≡ Ok number = (let P : ℕ → Type 0 = λ k. conn_of new k ≡ Ok number in subst P (sym (equal_test _ _ a)) changes.here) in
+    other (same_ok _ _ _ at here)
+no_new table new number id n i changes other free at false a = absent table n i free (sym (changes.others i (unequal_test _ _ a)) ∙ at)
+
+none_or : (o : Option ℕ) → ((i : ℕ) → o ≡ Some i → ⊥) → o ≡ None
+none_or None h = refl
+none_or (Some i) h = absurd (h i refl)
+
+pub free_given : (table new : List Connection) (number id n : ℕ) → give_of table number ≡ Ok (id, new) → n ≢ number → id_of table n ≡ None → id_of new n ≡ None
+free_given table new number id n e other free =
+    none_or (id_of new n) (λ i at. no_new table new number id n i (given table new number id e).1 other free (found new n i at) (nat_eq i id) refl)
+
+-- a connection without an id has none after a give to another, whatever the give answers
+pub free_after : (r : Result ℕ LightError) (table new : List Connection) (number n : ℕ) → MatchResult r (λ id. give_of table number ≡ Ok (id, new)) (λ e. Fails e (give_of table number)) → OnErr r (new ≡ table) → n ≢ number → id_of table n ≡ None → id_of new n ≡ None
+free_after (Ok id) table new number n e f other free = free_given table new number id n e other free
+free_after (Err x) table new number n e f other free = subst (λ (t : List Connection). id_of t n ≡ None) (sym f) free
+
+pub free_empty : (n : ℕ) → id_of [] n ≡ None
+unfolding id_of
+free_empty n = refl

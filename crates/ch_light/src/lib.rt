@@ -47,6 +47,8 @@ pub fn open_ids()
         → (conn_of table id ≡ Ok number) × ChangesOnly table new id (Err LightError.NotOpen) }
     ensures found { (table : List Connection) (number id : ℕ) → id_of table number ≡ Some id → conn_of table id ≡ Ok number }
     ensures absent { (table : List Connection) (number id : ℕ) → id_of table number ≡ None → conn_of table id ≢ Ok number }
+    ensures still_free { (table new : List Connection) (number id other : ℕ) → give_of table number ≡ Ok (id, new) → other ≢ number
+        → IsFree table other → IsFree new other }
     ensures one_each_given { (table new : List Connection) (number id : ℕ) → OneEach table → IsFree table number
         → ChangesOnly table new id (Ok number) → OneEach new }
     ensures one_each_closed { (table new : List Connection) (id : ℕ) → OneEach table

@@ -1,4 +1,4 @@
-use Rattle.ch_light.proofs.OpenIds.{given, created, closed_number, closed_id, found, absent, one_each_given, one_each_closed}
+use Rattle.ch_light.proofs.OpenIds.{given, created, closed_number, closed_id, found, absent, free_given, one_each_given, one_each_closed}
 use Rattle.ch_light.proofs.open_ids.Goals as goal
 
 pub returns : goal.returns
@@ -9,6 +9,7 @@ returns c = record {
   closed_id = closed_id;
   found = found;
   absent = absent;
+  still_free = free_given;
   one_each_given = one_each_given;
   one_each_closed = one_each_closed;
 }
