@@ -1,0 +1,12 @@
+pub mod Pair
+pub mod Moves
+pub mod Naming
+pub mod Words
+pub mod Probes
+pub mod Quiet
+pub mod Rest
+pub mod Measure
+pub mod Settle
+pub mod Payloads
+pub mod Invariant
+pub mod Rows
