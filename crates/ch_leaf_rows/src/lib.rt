@@ -2,6 +2,20 @@
 #![tactic(auto)]
 
 #[cfg(test)]
+mod ident;
+#[cfg(test)]
 mod light;
 #[cfg(test)]
 mod link;
+#[cfg(test)]
+mod mail;
+#[cfg(test)]
+mod reader;
+#[cfg(test)]
+mod static_;
+#[cfg(test)]
+mod typed;
+#[cfg(test)]
+mod watch;
+#[cfg(test)]
+mod wire;
