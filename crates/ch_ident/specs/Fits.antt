@@ -1,9 +1,9 @@
 -- What has a spelling: each text and each length in its rule.
 use Rattle.std.specs.Prelude.{◌≡◌, ℕ, ◌<◌, ◌≤◌, ◌^◌, List, length, true, Option, Some, None}
 use Rattle.ch_base.specs.Addresses.{IsAddress}
-use Rattle.ch_ident.specs.declared.identifier.ProcessId.{ProcessId}
-use Rattle.ch_ident.specs.declared.identifier.SendPortId.{SendPortId}
-use Rattle.ch_ident.specs.declared.identifier.Ref.{Ref}
+use Rattle.ch_ident.specs.declared.process.ProcessId.{ProcessId}
+use Rattle.ch_ident.specs.declared.process.SendPortId.{SendPortId}
+use Rattle.ch_ident.specs.declared.process.Ref.{Ref}
 use Rattle.ch_ident.specs.declared.identifier.Identifier.{Identifier}
 use Rattle.ch_ident.specs.declared.identifier.Identifier.TheVariants as ends
 use Rattle.ch_ident.specs.declared.reason.Reason.{Reason}
@@ -65,3 +65,7 @@ IsMessage (messages.IsAt question at) = IsReference question × IsFound at
 IsMessage (messages.NamedSend name mark body) = (is_name name ≡ true) × (is_name mark ≡ true) × (length body < 2 ^ 32)
 IsMessage (messages.Exit target text) = IsProcess target × (is_text text ≡ true)
 IsMessage (messages.Kill target text) = IsProcess target × (is_text text ≡ true)
+
+-- a user's message: its mark is a name
+abbrev pub IsUser : Message → Type 0
+IsUser m = is_name m.mark ≡ true

@@ -7,9 +7,9 @@ use Rattle.ch_base.specs.declared.address.Address.{Address}
 use Rattle.ch_base.specs.declared.address.AddressError.{AddressError}
 use Rattle.ch_ident.specs.declared.error.IdentError.{IdentError}
 use Rattle.ch_ident.specs.declared.error.IdentError.TheVariants.{Short, BadTag, BadText, Extra}
-use Rattle.ch_ident.specs.declared.identifier.ProcessId.{ProcessId}
-use Rattle.ch_ident.specs.declared.identifier.SendPortId.{SendPortId}
-use Rattle.ch_ident.specs.declared.identifier.Ref.{Ref}
+use Rattle.ch_ident.specs.declared.process.ProcessId.{ProcessId}
+use Rattle.ch_ident.specs.declared.process.SendPortId.{SendPortId}
+use Rattle.ch_ident.specs.declared.process.Ref.{Ref}
 use Rattle.ch_ident.specs.declared.identifier.Identifier.{Identifier}
 use Rattle.ch_ident.specs.declared.identifier.Identifier.TheVariants as ends
 use Rattle.ch_ident.specs.declared.reason.Reason.{Reason}
@@ -33,10 +33,8 @@ unfoldable pub tested_at : (ℕ → Bool) → ℕ → List ℕ → Result (List 
 tested_at test n bytes = if list_all test (take n bytes) then piece_at n bytes else Err BadText
 
 -- four bytes, the highest first
-unfoldable pub number_at : List ℕ → Result (ℕ × List ℕ) IdentError
-number_at bytes = do
-  word ← piece_at 4 bytes
-  Ok (from_be_bytes w32 word.0, word.1)
+abbrev pub number_at : List ℕ → Result (ℕ × List ℕ) IdentError
+number_at bytes = if nat_lt (length bytes) 4 then Err Short else Ok (from_be_bytes w32 (take 4 bytes), drop 4 bytes)
 
 -- a length from 1 to 63, and that many bytes of a name
 unfoldable pub name_at : List ℕ → Result (List ℕ × List ℕ) IdentError
@@ -54,15 +52,19 @@ long_at bytes = do
   n ← number_at bytes
   piece_at n.0 n.1
 
--- the address of a text, and what follows; a text that is no address is out of its rule
-abbrev pub with_address : Result Address AddressError → List ℕ → Result (Address × List ℕ) IdentError
-with_address (Ok a) rest = Ok (a, rest)
-with_address (Err e) rest = Err BadText
+-- an address, where it was read; a text that is no address is out of its rule
+abbrev pub address_field : Result Address AddressError → Result Address IdentError
+address_field (Ok a) = Ok a
+address_field (Err e) = Err BadText
+
+-- the address of a text
+abbrev pub address_of : List ℕ → Result Address IdentError
+address_of text = address_field (read_address text)
 
 -- a length from 1 to 80, and that many bytes that are an address
 unfoldable pub address_at : List ℕ → Result (Address × List ℕ) IdentError
 address_at [] = Err Short
-address_at (n ∷ rest) = if nat_le 1 n && nat_le n 80 then (piece_at n rest >>= λ text. with_address (read_address text.0) text.1) else Err BadText
+address_at (n ∷ rest) = if nat_le 1 n && nat_le n 80 then (piece_at n rest >>= λ text. address_of text.0 >>= λ a. Ok (a, text.1)) else Err BadText
 
 -- a process id: its node's address, then the two numbers
 unfoldable pub process_at : List ℕ → Result (ProcessId × List ℕ) IdentError

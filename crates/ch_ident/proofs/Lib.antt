@@ -1,0 +1,4 @@
+pub mod Takes
+pub mod Fields
+pub mod Identifiers
+pub mod Messages
