@@ -1,5 +1,5 @@
 -- Each field that is read is the field that was written, and what was written is read again.
-use Rattle.std.proofs.Common.{◌≡◌, ℕ, zero, suc, ◌+◌, ◌^◌, ◌<◌, ◌≤◌, Bool, true, false, cond, ◌&&◌, ltb, leb, List, [], ◌∷◌, ◌++◌, length, get_or, take, drop, Option, Some, None, Result, Ok, Err, refl, sym, ap, subst, ◌∙◌, append_assoc, arith, nat_lt, nat_le}
+use Rattle.std.proofs.Common.{◌≡◌, ℕ, ◌^◌, ◌<◌, ◌≤◌, Bool, true, false, ◌&&◌, List, [], ◌∷◌, ◌++◌, length, take, drop, Result, Ok, Err, refl, sym, ap, subst, arith, nat_lt, nat_le}
 use Rattle.std.specs.List.{list_all}
 use Rattle.std.specs.Int.{w32, from_be_bytes, to_be_bytes}
 use Rattle.std.proofs.lemmas.Bool.{ltb-false, le-ltb}
@@ -39,7 +39,7 @@ number_reads = record { takes = takes; again = again }
         let front : to_be_bytes w32 (from_be_bytes w32 (take 4 bytes)) ≡ take 4 bytes = be_bytes_4 (take 4 bytes) _ len word refl in
         let small : from_be_bytes w32 (take 4 bytes) < 2 ^ 32 = omega (arith, word 0, word 1, word 2, word 3) in
         subst (λ (y : ℕ × List ℕ). Takes bytes (number y.0) y.1 × (y.0 < 2 ^ 32)) (ok_is (from_be_bytes w32 (take 4 bytes), drop 4 bytes) x g.1)
-          (record { parts = subst (λ (t : List ℕ). bytes ≡ t ++ drop 4 bytes) (sym front) (sym (take-append-drop 4 bytes)); rest_fits = IsBytes-drop 4 bytes fits }, small)
+        (record { parts = subst (λ (t : List ℕ). bytes ≡ t ++ drop 4 bytes) (sym front) (sym (take-append-drop 4 bytes)); rest_fits = IsBytes-drop 4 bytes fits }, small)
 
     again : (n : ℕ) (rest : List ℕ) → n < 2 ^ 32 → number_at (number n ++ rest) ≡ Ok (n, rest)
     again n rest lt =
@@ -55,7 +55,7 @@ piece_takes n bytes x fits e =
     let g = not_refused (nat_lt (length bytes) n) Short (Ok (take n bytes, drop n bytes)) x e in
     let enough : n ≤ length bytes = ltb-false _ _ g.0 in
     subst (λ (y : List ℕ × List ℕ). Takes bytes y.0 y.1 × (length y.0 ≡ n)) (ok_is (take n bytes, drop n bytes) x g.1)
-      (record { parts = sym (take-append-drop n bytes); rest_fits = IsBytes-drop n bytes fits }, omega (arith, length-take n bytes))
+    (record { parts = sym (take-append-drop n bytes); rest_fits = IsBytes-drop n bytes fits }, omega (arith, length-take n bytes))
 
 pub piece_again : (piece rest : List ℕ) → piece_at (length piece) (piece ++ rest) ≡ Ok (piece, rest)
 unfolding piece_at
@@ -183,7 +183,7 @@ address_reads = record { takes = takes; again = again }
         let f = read_found p.0.0 a.0 (field_found (read_address p.0.0) a.0 a.1) in
         let s = short_takes n bytes p.0 t.0 t.1 in
         subst (λ (y : Address × List ℕ). Takes (n ∷ bytes) (address y.0) y.1 × IsAddress y.0) (ok_is (a.0, p.0.1) x a.2)
-          (subst (λ (text : List ℕ). Takes (n ∷ bytes) (short text) p.0.1) f.1 s, f.0)
+        (subst (λ (text : List ℕ). Takes (n ∷ bytes) (short text) p.0.1) f.1 s, f.0)
 
     again : (a : Address) (rest : List ℕ) → IsAddress a → address_at (address a ++ rest) ≡ Ok (a, rest)
     again a rest is = rw (address_length a is, piece_again (address_text a) rest, read_again a is) refl

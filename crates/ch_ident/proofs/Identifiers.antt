@@ -1,17 +1,15 @@
 -- Identifiers, reasons and found processes: what is read is spelled so, and what is spelled so is read.
-use Rattle.std.proofs.Common.{◌≡◌, ℕ, zero, suc, ◌<◌, ◌^◌, List, [], ◌∷◌, ◌++◌, Option, Some, None, Result, Ok, Err, refl, sym, ap, subst}
+use Rattle.std.proofs.Common.{◌≡◌, ℕ, zero, suc, List, [], ◌∷◌, ◌++◌, Option, Some, None, Ok, refl, sym, subst}
 use Rattle.ch_base.specs.Addresses.{IsAddress}
 use Rattle.ch_base.specs.declared.address.Address.{Address}
-use Rattle.ch_ident.specs.declared.error.IdentError.{IdentError}
-use Rattle.ch_ident.specs.declared.process.ProcessId.{ProcessId}
-use Rattle.ch_ident.specs.declared.process.SendPortId.{SendPortId}
-use Rattle.ch_ident.specs.declared.process.Ref.{Ref}
+use Rattle.ch_ident.specs.declared.identifier.ProcessId.{ProcessId}
+use Rattle.ch_ident.specs.declared.identifier.SendPortId.{SendPortId}
+use Rattle.ch_ident.specs.declared.identifier.Ref.{Ref}
 use Rattle.ch_ident.specs.declared.identifier.Identifier.{Identifier}
 use Rattle.ch_ident.specs.declared.identifier.Identifier.TheVariants as ends
 use Rattle.ch_ident.specs.declared.reason.Reason.{Reason}
 use Rattle.ch_ident.specs.declared.reason.Reason.TheVariants as reasons
 use Rattle.ch_ident.specs.Fits.{FitsReason, IsProcess, IsPort, IsReference, IsIdentifier, IsFound}
-use Rattle.ch_ident.specs.Outcome.{◌>>=◌}
 use Rattle.ch_ident.specs.Spelling.{number, short, address, process, port, reference, identifier, reason, found}
 use Rattle.ch_ident.specs.Reading.{number_at, text_at, address_at, process_at, port_at, reference_at, identifier_at, reason_at, found_at}
 use Rattle.ch_ident.proofs.Takes.{IsBytes, IsBytes-rest, ok_is, Takes, Takes-after, Reads, takes1, takes2, takes3, again1, again2, again3}

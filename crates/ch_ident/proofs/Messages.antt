@@ -1,11 +1,11 @@
 -- Messages from node to node and user messages: what is read is spelled so, and what is spelled so is read.
-use Rattle.std.proofs.Common.{◌≡◌, ℕ, zero, suc, ◌<◌, ◌^◌, Bool, true, false, cond, List, [], ◌∷◌, ◌++◌, length, Option, Some, None, Result, Ok, Err, IfOk, ◌==◌, refl, sym, ap, subst, ◌∙◌, arith}
+use Rattle.std.proofs.Common.{◌≡◌, ℕ, zero, suc, List, [], ◌∷◌, ◌++◌, length, Option, Result, Ok, Err, IfOk, ◌==◌, refl, sym, ap, subst, ◌∙◌}
 use Rattle.std.proofs.lemmas.Bool.{eqb-true}
 use Rattle.std.proofs.lemmas.List.{append-nil, nil_from_length}
 use Rattle.ch_ident.specs.declared.error.IdentError.{IdentError}
 use Rattle.ch_ident.specs.declared.error.IdentError.TheVariants.{Extra}
-use Rattle.ch_ident.specs.declared.process.ProcessId.{ProcessId}
-use Rattle.ch_ident.specs.declared.process.Ref.{Ref}
+use Rattle.ch_ident.specs.declared.identifier.ProcessId.{ProcessId}
+use Rattle.ch_ident.specs.declared.identifier.Ref.{Ref}
 use Rattle.ch_ident.specs.declared.identifier.Identifier.{Identifier}
 use Rattle.ch_ident.specs.declared.reason.Reason.{Reason}
 use Rattle.ch_ident.specs.declared.message.Message.{Message}
@@ -14,7 +14,7 @@ use Rattle.ch_ident.specs.declared.node_message.NodeMessage.TheVariants as messa
 use Rattle.ch_ident.specs.Fits.{FitsReason, IsProcess, IsReference, IsIdentifier, IsFound, IsMessage, IsUser}
 use Rattle.ch_ident.specs.Outcome.{◌>>=◌, Gives}
 use Rattle.ch_ident.specs.Spelling.{short, long, process, reference, identifier, reason, found, message, user}
-use Rattle.ch_ident.specs.Reading.{name_at, text_at, long_at, process_at, reference_at, identifier_at, reason_at, found_at, opening_at, monitor_at, unmonitor_at, link_at, unlink_at, spawn_at, did_spawn_at, died_at, where_is_at, is_at_at, named_send_at, exit_at, kill_at, fields_at, message_at, whole, identifier_of, message_of, user_of}
+use Rattle.ch_ident.specs.Reading.{name_at, text_at, long_at, process_at, reference_at, identifier_at, reason_at, found_at, opening_at, monitor_at, unmonitor_at, link_at, unlink_at, spawn_at, did_spawn_at, died_at, where_is_at, is_at_at, named_send_at, exit_at, kill_at, fields_at, message_at, whole, user_of}
 use Rattle.ch_ident.proofs.Takes.{IsBytes, IsBytes-rest, bind_ok, passed, ok_is, Takes, Takes-after, Reads, takes1, takes2, takes3, again1, again2, again3}
 use Rattle.ch_ident.proofs.Fields.{IsName, IsText, IsLong, name_reads, text_reads, long_reads}
 use Rattle.ch_ident.proofs.Identifiers.{process_reads, reference_reads, identifier_reads, reason_reads, found_reads}
@@ -30,8 +30,8 @@ opening_takes : ReadsFields 0 opening_at
 unfolding opening_at
 opening_takes = record {
   takes = λ bytes x fits e.
-    let t = takes2 identifier_at identifier IsIdentifier identifier_reads identifier_at identifier IsIdentifier identifier_reads opening bytes x fits e in
-    subst (λ (m : NodeMessage). Takes (0 ∷ bytes) (message m) x.1 × IsMessage m) t.made (Takes-after 0 bytes (identifier t.first ++ identifier t.second) x.1 t.takes, (t.is, t.is2))
+      let t = takes2 identifier_at identifier IsIdentifier identifier_reads identifier_at identifier IsIdentifier identifier_reads opening bytes x fits e in
+      subst (λ (m : NodeMessage). Takes (0 ∷ bytes) (message m) x.1 × IsMessage m) t.made (Takes-after 0 bytes (identifier t.first ++ identifier t.second) x.1 t.takes, (t.is, t.is2));
 }
 
 abbrev monitor : Ref → ProcessId → NodeMessage
@@ -41,8 +41,8 @@ monitor_takes : ReadsFields 1 monitor_at
 unfolding monitor_at
 monitor_takes = record {
   takes = λ bytes x fits e.
-    let t = takes2 reference_at reference IsReference reference_reads process_at process IsProcess process_reads monitor bytes x fits e in
-    subst (λ (m : NodeMessage). Takes (1 ∷ bytes) (message m) x.1 × IsMessage m) t.made (Takes-after 1 bytes (reference t.first ++ process t.second) x.1 t.takes, (t.is, t.is2))
+      let t = takes2 reference_at reference IsReference reference_reads process_at process IsProcess process_reads monitor bytes x fits e in
+      subst (λ (m : NodeMessage). Takes (1 ∷ bytes) (message m) x.1 × IsMessage m) t.made (Takes-after 1 bytes (reference t.first ++ process t.second) x.1 t.takes, (t.is, t.is2));
 }
 
 abbrev unmonitor : Ref → NodeMessage
@@ -52,8 +52,8 @@ unmonitor_takes : ReadsFields 2 unmonitor_at
 unfolding unmonitor_at
 unmonitor_takes = record {
   takes = λ bytes x fits e.
-    let t = takes1 reference_at reference IsReference reference_reads unmonitor bytes x fits e in
-    subst (λ (m : NodeMessage). Takes (2 ∷ bytes) (message m) x.1 × IsMessage m) t.made (Takes-after 2 bytes (reference t.first) x.1 t.takes, t.is)
+      let t = takes1 reference_at reference IsReference reference_reads unmonitor bytes x fits e in
+      subst (λ (m : NodeMessage). Takes (2 ∷ bytes) (message m) x.1 × IsMessage m) t.made (Takes-after 2 bytes (reference t.first) x.1 t.takes, t.is);
 }
 
 abbrev link : Ref → ProcessId → NodeMessage
@@ -63,8 +63,8 @@ link_takes : ReadsFields 3 link_at
 unfolding link_at
 link_takes = record {
   takes = λ bytes x fits e.
-    let t = takes2 reference_at reference IsReference reference_reads process_at process IsProcess process_reads link bytes x fits e in
-    subst (λ (m : NodeMessage). Takes (3 ∷ bytes) (message m) x.1 × IsMessage m) t.made (Takes-after 3 bytes (reference t.first ++ process t.second) x.1 t.takes, (t.is, t.is2))
+      let t = takes2 reference_at reference IsReference reference_reads process_at process IsProcess process_reads link bytes x fits e in
+      subst (λ (m : NodeMessage). Takes (3 ∷ bytes) (message m) x.1 × IsMessage m) t.made (Takes-after 3 bytes (reference t.first ++ process t.second) x.1 t.takes, (t.is, t.is2));
 }
 
 abbrev unlink : Ref → NodeMessage
@@ -74,8 +74,8 @@ unlink_takes : ReadsFields 4 unlink_at
 unfolding unlink_at
 unlink_takes = record {
   takes = λ bytes x fits e.
-    let t = takes1 reference_at reference IsReference reference_reads unlink bytes x fits e in
-    subst (λ (m : NodeMessage). Takes (4 ∷ bytes) (message m) x.1 × IsMessage m) t.made (Takes-after 4 bytes (reference t.first) x.1 t.takes, t.is)
+      let t = takes1 reference_at reference IsReference reference_reads unlink bytes x fits e in
+      subst (λ (m : NodeMessage). Takes (4 ∷ bytes) (message m) x.1 × IsMessage m) t.made (Takes-after 4 bytes (reference t.first) x.1 t.takes, t.is);
 }
 
 abbrev spawn : Ref → List ℕ → List ℕ → NodeMessage
@@ -85,8 +85,8 @@ spawn_takes : ReadsFields 5 spawn_at
 unfolding spawn_at
 spawn_takes = record {
   takes = λ bytes x fits e.
-    let t = takes3 reference_at reference IsReference reference_reads name_at short IsName name_reads long_at long IsLong long_reads spawn bytes x fits e in
-    subst (λ (m : NodeMessage). Takes (5 ∷ bytes) (message m) x.1 × IsMessage m) t.made (Takes-after 5 bytes (reference t.first ++ short t.second ++ long t.third) x.1 t.takes, (t.is, t.is2, t.is3))
+      let t = takes3 reference_at reference IsReference reference_reads name_at short IsName name_reads long_at long IsLong long_reads spawn bytes x fits e in
+      subst (λ (m : NodeMessage). Takes (5 ∷ bytes) (message m) x.1 × IsMessage m) t.made (Takes-after 5 bytes (reference t.first ++ short t.second ++ long t.third) x.1 t.takes, (t.is, t.is2, t.is3));
 }
 
 abbrev did_spawn : Ref → ProcessId → NodeMessage
@@ -96,8 +96,8 @@ did_spawn_takes : ReadsFields 6 did_spawn_at
 unfolding did_spawn_at
 did_spawn_takes = record {
   takes = λ bytes x fits e.
-    let t = takes2 reference_at reference IsReference reference_reads process_at process IsProcess process_reads did_spawn bytes x fits e in
-    subst (λ (m : NodeMessage). Takes (6 ∷ bytes) (message m) x.1 × IsMessage m) t.made (Takes-after 6 bytes (reference t.first ++ process t.second) x.1 t.takes, (t.is, t.is2))
+      let t = takes2 reference_at reference IsReference reference_reads process_at process IsProcess process_reads did_spawn bytes x fits e in
+      subst (λ (m : NodeMessage). Takes (6 ∷ bytes) (message m) x.1 × IsMessage m) t.made (Takes-after 6 bytes (reference t.first ++ process t.second) x.1 t.takes, (t.is, t.is2));
 }
 
 abbrev died : Ref → Reason → NodeMessage
@@ -107,8 +107,8 @@ died_takes : ReadsFields 7 died_at
 unfolding died_at
 died_takes = record {
   takes = λ bytes x fits e.
-    let t = takes2 reference_at reference IsReference reference_reads reason_at reason FitsReason reason_reads died bytes x fits e in
-    subst (λ (m : NodeMessage). Takes (7 ∷ bytes) (message m) x.1 × IsMessage m) t.made (Takes-after 7 bytes (reference t.first ++ reason t.second) x.1 t.takes, (t.is, t.is2))
+      let t = takes2 reference_at reference IsReference reference_reads reason_at reason FitsReason reason_reads died bytes x fits e in
+      subst (λ (m : NodeMessage). Takes (7 ∷ bytes) (message m) x.1 × IsMessage m) t.made (Takes-after 7 bytes (reference t.first ++ reason t.second) x.1 t.takes, (t.is, t.is2));
 }
 
 abbrev where_is : Ref → List ℕ → NodeMessage
@@ -118,8 +118,8 @@ where_is_takes : ReadsFields 8 where_is_at
 unfolding where_is_at
 where_is_takes = record {
   takes = λ bytes x fits e.
-    let t = takes2 reference_at reference IsReference reference_reads name_at short IsName name_reads where_is bytes x fits e in
-    subst (λ (m : NodeMessage). Takes (8 ∷ bytes) (message m) x.1 × IsMessage m) t.made (Takes-after 8 bytes (reference t.first ++ short t.second) x.1 t.takes, (t.is, t.is2))
+      let t = takes2 reference_at reference IsReference reference_reads name_at short IsName name_reads where_is bytes x fits e in
+      subst (λ (m : NodeMessage). Takes (8 ∷ bytes) (message m) x.1 × IsMessage m) t.made (Takes-after 8 bytes (reference t.first ++ short t.second) x.1 t.takes, (t.is, t.is2));
 }
 
 abbrev is_at : Ref → Option ProcessId → NodeMessage
@@ -129,8 +129,8 @@ is_at_takes : ReadsFields 9 is_at_at
 unfolding is_at_at
 is_at_takes = record {
   takes = λ bytes x fits e.
-    let t = takes2 reference_at reference IsReference reference_reads found_at found IsFound found_reads is_at bytes x fits e in
-    subst (λ (m : NodeMessage). Takes (9 ∷ bytes) (message m) x.1 × IsMessage m) t.made (Takes-after 9 bytes (reference t.first ++ found t.second) x.1 t.takes, (t.is, t.is2))
+      let t = takes2 reference_at reference IsReference reference_reads found_at found IsFound found_reads is_at bytes x fits e in
+      subst (λ (m : NodeMessage). Takes (9 ∷ bytes) (message m) x.1 × IsMessage m) t.made (Takes-after 9 bytes (reference t.first ++ found t.second) x.1 t.takes, (t.is, t.is2));
 }
 
 abbrev named_send : List ℕ → List ℕ → List ℕ → NodeMessage
@@ -140,8 +140,8 @@ named_send_takes : ReadsFields 10 named_send_at
 unfolding named_send_at
 named_send_takes = record {
   takes = λ bytes x fits e.
-    let t = takes3 name_at short IsName name_reads name_at short IsName name_reads long_at long IsLong long_reads named_send bytes x fits e in
-    subst (λ (m : NodeMessage). Takes (10 ∷ bytes) (message m) x.1 × IsMessage m) t.made (Takes-after 10 bytes (short t.first ++ short t.second ++ long t.third) x.1 t.takes, (t.is, t.is2, t.is3))
+      let t = takes3 name_at short IsName name_reads name_at short IsName name_reads long_at long IsLong long_reads named_send bytes x fits e in
+      subst (λ (m : NodeMessage). Takes (10 ∷ bytes) (message m) x.1 × IsMessage m) t.made (Takes-after 10 bytes (short t.first ++ short t.second ++ long t.third) x.1 t.takes, (t.is, t.is2, t.is3));
 }
 
 abbrev exit : ProcessId → List ℕ → NodeMessage
@@ -151,8 +151,8 @@ exit_takes : ReadsFields 11 exit_at
 unfolding exit_at
 exit_takes = record {
   takes = λ bytes x fits e.
-    let t = takes2 process_at process IsProcess process_reads text_at short IsText text_reads exit bytes x fits e in
-    subst (λ (m : NodeMessage). Takes (11 ∷ bytes) (message m) x.1 × IsMessage m) t.made (Takes-after 11 bytes (process t.first ++ short t.second) x.1 t.takes, (t.is, t.is2))
+      let t = takes2 process_at process IsProcess process_reads text_at short IsText text_reads exit bytes x fits e in
+      subst (λ (m : NodeMessage). Takes (11 ∷ bytes) (message m) x.1 × IsMessage m) t.made (Takes-after 11 bytes (process t.first ++ short t.second) x.1 t.takes, (t.is, t.is2));
 }
 
 abbrev kill : ProcessId → List ℕ → NodeMessage
@@ -162,8 +162,8 @@ kill_takes : ReadsFields 12 kill_at
 unfolding kill_at
 kill_takes = record {
   takes = λ bytes x fits e.
-    let t = takes2 process_at process IsProcess process_reads text_at short IsText text_reads kill bytes x fits e in
-    subst (λ (m : NodeMessage). Takes (12 ∷ bytes) (message m) x.1 × IsMessage m) t.made (Takes-after 12 bytes (process t.first ++ short t.second) x.1 t.takes, (t.is, t.is2))
+      let t = takes2 process_at process IsProcess process_reads text_at short IsText text_reads kill bytes x fits e in
+      subst (λ (m : NodeMessage). Takes (12 ∷ bytes) (message m) x.1 × IsMessage m) t.made (Takes-after 12 bytes (process t.first ++ short t.second) x.1 t.takes, (t.is, t.is2));
 }
 
 message_takes : (bytes : List ℕ) (x : NodeMessage × List ℕ) → IsBytes bytes → message_at bytes ≡ Ok x → Takes bytes (message x.0) x.1 × IsMessage x.0

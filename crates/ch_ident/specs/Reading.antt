@@ -7,9 +7,9 @@ use Rattle.ch_base.specs.declared.address.Address.{Address}
 use Rattle.ch_base.specs.declared.address.AddressError.{AddressError}
 use Rattle.ch_ident.specs.declared.error.IdentError.{IdentError}
 use Rattle.ch_ident.specs.declared.error.IdentError.TheVariants.{Short, BadTag, BadText, Extra}
-use Rattle.ch_ident.specs.declared.process.ProcessId.{ProcessId}
-use Rattle.ch_ident.specs.declared.process.SendPortId.{SendPortId}
-use Rattle.ch_ident.specs.declared.process.Ref.{Ref}
+use Rattle.ch_ident.specs.declared.identifier.ProcessId.{ProcessId}
+use Rattle.ch_ident.specs.declared.identifier.SendPortId.{SendPortId}
+use Rattle.ch_ident.specs.declared.identifier.Ref.{Ref}
 use Rattle.ch_ident.specs.declared.identifier.Identifier.{Identifier}
 use Rattle.ch_ident.specs.declared.identifier.Identifier.TheVariants as ends
 use Rattle.ch_ident.specs.declared.reason.Reason.{Reason}

@@ -3,9 +3,9 @@ use Rattle.std.specs.Prelude.{ℕ, List, [], ◌∷◌, ◌++◌, length, Option
 use Rattle.std.specs.Int.{w32, to_be_bytes}
 use Rattle.ch_base.specs.Addresses.{address_text}
 use Rattle.ch_base.specs.declared.address.Address.{Address}
-use Rattle.ch_ident.specs.declared.process.ProcessId.{ProcessId}
-use Rattle.ch_ident.specs.declared.process.SendPortId.{SendPortId}
-use Rattle.ch_ident.specs.declared.process.Ref.{Ref}
+use Rattle.ch_ident.specs.declared.identifier.ProcessId.{ProcessId}
+use Rattle.ch_ident.specs.declared.identifier.SendPortId.{SendPortId}
+use Rattle.ch_ident.specs.declared.identifier.Ref.{Ref}
 use Rattle.ch_ident.specs.declared.identifier.Identifier.{Identifier}
 use Rattle.ch_ident.specs.declared.identifier.Identifier.TheVariants as ends
 use Rattle.ch_ident.specs.declared.reason.Reason.{Reason}

@@ -11,15 +11,15 @@ mod name;
 mod node_message;
 mod node_reading;
 mod node_writing;
-mod process;
 mod reason;
 
 pub use error::IdentError;
-pub use identifier::{Identifier, put_identifier, take_identifier};
+pub use identifier::{
+    Identifier, MonitorRef, ProcessId, Ref, SendPortId, SpawnRef, put_identifier, take_identifier,
+};
 pub use message::{Message, put_user, take_user};
 pub use name::Name;
 pub use node_message::NodeMessage;
 pub use node_reading::take_message;
 pub use node_writing::put_message;
-pub use process::{MonitorRef, ProcessId, Ref, SendPortId, SpawnRef};
 pub use reason::Reason;

@@ -3,9 +3,8 @@
 
 ghost use Rattle.std.specs.Prelude.{◌≡◌, IfOk};
 
-use crate::identifier::Identifier;
+use crate::identifier::{Identifier, ProcessId, Ref};
 use crate::name::Name;
-use crate::process::{ProcessId, Ref};
 use crate::reason::Reason;
 use ch_base::{OutOfMemory, Text};
 

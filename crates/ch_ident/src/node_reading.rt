@@ -10,9 +10,8 @@ ghost use Rattle.ch_ident.specs.declared.node_message.NodeMessage.{NodeMessage};
 
 use crate::error::IdentError;
 use crate::field::{read_long, read_name, read_text};
-use crate::identifier::read_identifier;
+use crate::identifier::{ProcessId, read_identifier, read_process, read_reference};
 use crate::node_message::NodeMessage;
-use crate::process::{ProcessId, read_process, read_reference};
 use crate::reason::read_reason;
 use std::alloc::Global;
 

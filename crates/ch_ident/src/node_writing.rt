@@ -6,9 +6,8 @@ ghost use Rattle.ch_ident.specs.Fits.{FitsMessage};
 ghost use Rattle.ch_ident.specs.Spelling.{found, message};
 
 use crate::field::{write_long, write_name, write_text};
-use crate::identifier::write_identifier;
+use crate::identifier::{ProcessId, write_identifier, write_process, write_reference};
 use crate::node_message::NodeMessage;
-use crate::process::{ProcessId, write_process, write_reference};
 use crate::reason::write_reason;
 use ch_base::OutOfMemory;
 
