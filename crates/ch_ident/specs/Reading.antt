@@ -123,36 +123,40 @@ found_at (suc zero ∷ rest) = do
   Ok (Some process.0, process.1)
 found_at (suc (suc tag) ∷ rest) = Err BadTag
 
--- the fields of each message, in order
-
+-- an opening message: the sending end, then the receiving end
 unfoldable pub opening_at : List ℕ → Result (NodeMessage × List ℕ) IdentError
 opening_at bytes = do
   from ← identifier_at bytes
   to ← identifier_at from.1
   Ok (messages.Opening from.0 to.0, to.1)
 
+-- a monitor: its reference, then its target
 unfoldable pub monitor_at : List ℕ → Result (NodeMessage × List ℕ) IdentError
 monitor_at bytes = do
   watch ← reference_at bytes
   target ← process_at watch.1
   Ok (messages.Monitor watch.0 target.0, target.1)
 
+-- the end of a monitor: its reference
 unfoldable pub unmonitor_at : List ℕ → Result (NodeMessage × List ℕ) IdentError
 unmonitor_at bytes = do
   watch ← reference_at bytes
   Ok (messages.Unmonitor watch.0, watch.1)
 
+-- a link: its reference, then its target
 unfoldable pub link_at : List ℕ → Result (NodeMessage × List ℕ) IdentError
 link_at bytes = do
   watch ← reference_at bytes
   target ← process_at watch.1
   Ok (messages.Link watch.0 target.0, target.1)
 
+-- the end of a link: its reference
 unfoldable pub unlink_at : List ℕ → Result (NodeMessage × List ℕ) IdentError
 unlink_at bytes = do
   watch ← reference_at bytes
   Ok (messages.Unlink watch.0, watch.1)
 
+-- a spawn: its reference, the label, the arguments
 unfoldable pub spawn_at : List ℕ → Result (NodeMessage × List ℕ) IdentError
 spawn_at bytes = do
   question ← reference_at bytes
@@ -160,30 +164,35 @@ spawn_at bytes = do
   args ← long_at label.1
   Ok (messages.Spawn question.0 label.0 args.0, args.1)
 
+-- the answer to a spawn: its reference, then the process
 unfoldable pub did_spawn_at : List ℕ → Result (NodeMessage × List ℕ) IdentError
 did_spawn_at bytes = do
   question ← reference_at bytes
   process ← process_at question.1
   Ok (messages.DidSpawn question.0 process.0, process.1)
 
+-- a death: the watch's reference, then the reason
 unfoldable pub died_at : List ℕ → Result (NodeMessage × List ℕ) IdentError
 died_at bytes = do
   watch ← reference_at bytes
   reason ← reason_at watch.1
   Ok (messages.Died watch.0 reason.0, reason.1)
 
+-- a question for a name: its reference, then the name
 unfoldable pub where_is_at : List ℕ → Result (NodeMessage × List ℕ) IdentError
 where_is_at bytes = do
   question ← reference_at bytes
   name ← name_at question.1
   Ok (messages.WhereIs question.0 name.0, name.1)
 
+-- the answer to it: its reference, then what was found
 unfoldable pub is_at_at : List ℕ → Result (NodeMessage × List ℕ) IdentError
 is_at_at bytes = do
   question ← reference_at bytes
   found ← found_at question.1
   Ok (messages.IsAt question.0 found.0, found.1)
 
+-- a message to a name: the name, the mark, the body
 unfoldable pub named_send_at : List ℕ → Result (NodeMessage × List ℕ) IdentError
 named_send_at bytes = do
   name ← name_at bytes
@@ -191,19 +200,21 @@ named_send_at bytes = do
   body ← long_at mark.1
   Ok (messages.NamedSend name.0 mark.0 body.0, body.1)
 
+-- an exit: its target, then its text
 unfoldable pub exit_at : List ℕ → Result (NodeMessage × List ℕ) IdentError
 exit_at bytes = do
   target ← process_at bytes
   text ← text_at target.1
   Ok (messages.Exit target.0 text.0, text.1)
 
+-- a kill: its target, then its text
 unfoldable pub kill_at : List ℕ → Result (NodeMessage × List ℕ) IdentError
 kill_at bytes = do
   target ← process_at bytes
   text ← text_at target.1
   Ok (messages.Kill target.0 text.0, text.1)
 
--- the table of tags
+-- the fields of a message, by its tag
 unfoldable pub fields_at : ℕ → List ℕ → Result (NodeMessage × List ℕ) IdentError
 fields_at zero rest = opening_at rest
 fields_at (suc zero) rest = monitor_at rest

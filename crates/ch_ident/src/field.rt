@@ -169,6 +169,7 @@ pub(crate) fn read_address(alloc: Global, bytes: &[u8]) -> Result<(Address, &[u8
 pub(crate) fn write_address(node: &Address, out: &mut Vec<u8>) -> Result<(), OutOfMemory>
     ensures { OnOk result (out.new.items ≡ out.old.items ++ address node.now) }
 {
+    // Opens the address, which shows that its text is short.
     let _ = &node.port;
     let text = node.text()?;
     write_short(text.as_slice(), out)

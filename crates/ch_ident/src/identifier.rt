@@ -5,8 +5,8 @@
 ghost use Rattle.std.specs.Prelude.{◌≡◌, ◌++◌, IfOk, OnOk, OnErr, Ok};
 ghost use Rattle.ch_ident.specs.Fits.{IsIdentifier};
 ghost use Rattle.ch_ident.specs.Outcome.{Gives, GivesBy};
-ghost use Rattle.ch_ident.specs.Reading.{process_at, port_at, reference_at, identifier_at, identifier_of};
-ghost use Rattle.ch_ident.specs.Spelling.{process, port, reference, identifier};
+ghost use Rattle.ch_ident.specs.Reading.{process_at, port_at, reference_at, found_at, identifier_at, identifier_of};
+ghost use Rattle.ch_ident.specs.Spelling.{process, port, reference, found, identifier};
 ghost use Rattle.ch_ident.specs.declared.identifier.Identifier.{Identifier};
 
 use crate::error::IdentError;
@@ -136,6 +136,37 @@ pub(crate) fn write_reference(id: &Ref, out: &mut Vec<u8>) -> Result<(), OutOfMe
     write_number(id.number, out)
 }
 
+#[tactic(auto, unfolding(crate::specs::Reading::found_at))]
+pub(crate) fn read_found(
+    alloc: Global,
+    bytes: &[u8],
+) -> Result<(Option<ProcessId>, &[u8]), IdentError>
+    ensures { GivesBy (λ x. (x.0, x.1.now)) result (found_at bytes.now) }
+{
+    match bytes {
+        [] => Err(IdentError::Short),
+        [0, rest @ ..] => Ok((None, rest)),
+        [1, rest @ ..] => {
+            let (process, rest) = read_process(alloc, rest)?;
+            Ok((Some(process), rest))
+        }
+        [_, ..] => Err(IdentError::BadTag),
+    }
+}
+
+pub(crate) fn write_found(id: &Option<ProcessId>, out: &mut Vec<u8>) -> Result<(), OutOfMemory>
+    ensures { OnOk result (out.new.items ≡ out.old.items ++ found id.now) }
+{
+    match id {
+        None => out.push(0)?,
+        Some(process) => {
+            out.push(1)?;
+            write_process(process, out)?;
+        }
+    }
+    Ok(())
+}
+
 /// An end of a connection.
 #[derive(Debug, Drop)]
 pub enum Identifier {
@@ -219,6 +250,7 @@ pub fn put_identifier(value: &Identifier, out: &mut Vec<u8>) -> Result<(), OutOf
     ensures ok { OnOk result (out.new.items ≡ out.old.items ++ identifier value.now) }
     ensures err { OnErr result (out.new.items ≡ out.old.items) }
 {
+    // Spelled apart, so that want of memory on the way leaves `out` as it was.
     let mut spelled = Vec::new(*out.allocator());
     write_identifier(value, &mut spelled)?;
     out.extend_from_slice(&spelled)?;

@@ -8,9 +8,8 @@ mod field;
 mod identifier;
 mod message;
 mod name;
+mod node_codec;
 mod node_message;
-mod node_reading;
-mod node_writing;
 mod reason;
 
 pub use error::IdentError;
@@ -19,7 +18,6 @@ pub use identifier::{
 };
 pub use message::{Message, put_user, take_user};
 pub use name::Name;
+pub use node_codec::{put_message, take_message};
 pub use node_message::NodeMessage;
-pub use node_reading::take_message;
-pub use node_writing::put_message;
 pub use reason::Reason;

@@ -43,6 +43,7 @@ pub fn put_user(value: &Message, out: &mut Vec<u8>) -> Result<(), OutOfMemory>
     let mark = &value.mark;
     let mark = mark.bytes.as_slice();
     let body = value.body.as_slice();
+    // With room for all of it, no append below fails.
     out.reserve(1 + mark.len() + body.len())?;
     out.push(mark.len() as u8)?;
     out.extend_from_slice(mark)?;

@@ -1,34 +1,24 @@
-//! Reading a message from node to node: its tag, then its fields in order.
-//! Below are the readers of the fields; a node reads what its peers wrote.
+//! The messages from node to node as bytes, read and written: a tag, then the fields in order.
+//! Below are the readers and writers of the fields; a node writes these to its peers and reads
+//! what they wrote.
 
-ghost use Rattle.std.specs.Prelude.{◌≡◌, IfOk, Ok};
-ghost use Rattle.ch_ident.specs.Fits.{IsMessage};
+ghost use Rattle.std.specs.Prelude.{◌≡◌, ◌++◌, IfOk, OnOk, OnErr, Ok};
+ghost use Rattle.ch_ident.specs.Fits.{FitsMessage, IsMessage};
 ghost use Rattle.ch_ident.specs.Outcome.{Gives, GivesBy};
-ghost use Rattle.ch_ident.specs.Reading.{found_at, opening_at, monitor_at, unmonitor_at, link_at, unlink_at, spawn_at, did_spawn_at, died_at, where_is_at, is_at_at, named_send_at, exit_at, kill_at, message_at, message_of};
+ghost use Rattle.ch_ident.specs.Reading.{opening_at, monitor_at, unmonitor_at, link_at, unlink_at, spawn_at, did_spawn_at, died_at, where_is_at, is_at_at, named_send_at, exit_at, kill_at, message_at, message_of};
 ghost use Rattle.ch_ident.specs.Spelling.{message};
 ghost use Rattle.ch_ident.specs.declared.node_message.NodeMessage.{NodeMessage};
 
 use crate::error::IdentError;
-use crate::field::{read_long, read_name, read_text};
-use crate::identifier::{ProcessId, read_identifier, read_process, read_reference};
+use crate::field::{read_long, read_name, read_text, write_long, write_name, write_text};
+use crate::identifier::{
+    read_found, read_identifier, read_process, read_reference, write_found, write_identifier,
+    write_process, write_reference,
+};
 use crate::node_message::NodeMessage;
-use crate::reason::read_reason;
+use crate::reason::{read_reason, write_reason};
+use ch_base::OutOfMemory;
 use std::alloc::Global;
-
-#[tactic(auto, unfolding(crate::specs::Reading::found_at))]
-fn read_found(alloc: Global, bytes: &[u8]) -> Result<(Option<ProcessId>, &[u8]), IdentError>
-    ensures { GivesBy (λ x. (x.0, x.1.now)) result (found_at bytes.now) }
-{
-    match bytes {
-        [] => Err(IdentError::Short),
-        [0, rest @ ..] => Ok((None, rest)),
-        [1, rest @ ..] => {
-            let (process, rest) = read_process(alloc, rest)?;
-            Ok((Some(process), rest))
-        }
-        [_, ..] => Err(IdentError::BadTag),
-    }
-}
 
 #[tactic(auto, unfolding(crate::specs::Reading::opening_at))]
 fn read_opening(alloc: Global, bytes: &[u8]) -> Result<(NodeMessage, &[u8]), IdentError>
@@ -154,7 +144,7 @@ fn read_kill(alloc: Global, bytes: &[u8]) -> Result<(NodeMessage, &[u8]), IdentE
     Ok((NodeMessage::Kill { target, text }, rest))
 }
 
-/// The table of tags.
+/// The table of tags, read.
 #[tactic(auto, unfolding(crate::specs::Reading::message_at, crate::specs::Reading::fields_at))]
 fn read_message(alloc: Global, bytes: &[u8]) -> Result<(NodeMessage, &[u8]), IdentError>
     ensures { GivesBy (λ x. (x.0, x.1.now)) result (message_at bytes.now) }
@@ -176,6 +166,101 @@ fn read_message(alloc: Global, bytes: &[u8]) -> Result<(NodeMessage, &[u8]), Ide
         [12, rest @ ..] => read_kill(alloc, rest),
         [_, ..] => Err(IdentError::BadTag),
     }
+}
+
+/// The table of tags, written.
+fn write_message(value: &NodeMessage, out: &mut Vec<u8>) -> Result<(), OutOfMemory>
+    requires { FitsMessage value.now }
+    ensures { OnOk result (out.new.items ≡ out.old.items ++ message value.now) }
+{
+    match value {
+        NodeMessage::Opening { from, to } => {
+            out.push(0)?;
+            write_identifier(from, out)?;
+            write_identifier(to, out)
+        }
+        NodeMessage::Monitor { watch, target } => {
+            out.push(1)?;
+            write_reference(watch, out)?;
+            write_process(target, out)
+        }
+        NodeMessage::Unmonitor { watch } => {
+            out.push(2)?;
+            write_reference(watch, out)
+        }
+        NodeMessage::Link { watch, target } => {
+            out.push(3)?;
+            write_reference(watch, out)?;
+            write_process(target, out)
+        }
+        NodeMessage::Unlink { watch } => {
+            out.push(4)?;
+            write_reference(watch, out)
+        }
+        NodeMessage::Spawn {
+            question,
+            label,
+            args,
+        } => {
+            out.push(5)?;
+            write_reference(question, out)?;
+            write_name(label, out)?;
+            write_long(args, out)
+        }
+        NodeMessage::DidSpawn { question, process } => {
+            out.push(6)?;
+            write_reference(question, out)?;
+            write_process(process, out)
+        }
+        NodeMessage::Died { watch, reason } => {
+            out.push(7)?;
+            write_reference(watch, out)?;
+            write_reason(reason, out)
+        }
+        NodeMessage::WhereIs { question, name } => {
+            out.push(8)?;
+            write_reference(question, out)?;
+            write_name(name, out)
+        }
+        NodeMessage::IsAt { question, found } => {
+            out.push(9)?;
+            write_reference(question, out)?;
+            write_found(found, out)
+        }
+        NodeMessage::NamedSend { name, mark, body } => {
+            out.push(10)?;
+            write_name(name, out)?;
+            write_name(mark, out)?;
+            write_long(body, out)
+        }
+        NodeMessage::Exit { target, text } => {
+            out.push(11)?;
+            write_process(target, out)?;
+            write_text(text, out)
+        }
+        NodeMessage::Kill { target, text } => {
+            out.push(12)?;
+            write_process(target, out)?;
+            write_text(text, out)
+        }
+    }
+}
+
+/// Appends the one spelling of a message from node to node: its tag, then its fields in order.
+/// Each text has at most 255 bytes from 0x20 to 0x7e, and arguments and bodies have fewer than
+/// 2 to the 32nd bytes.
+///
+/// The only refusal is want of memory, after which the vector is unchanged.
+pub fn put_message(value: &NodeMessage, out: &mut Vec<u8>) -> Result<(), OutOfMemory>
+    requires { FitsMessage value.now }
+    ensures ok { OnOk result (out.new.items ≡ out.old.items ++ message value.now) }
+    ensures err { OnErr result (out.new.items ≡ out.old.items) }
+{
+    // Spelled apart, so that want of memory on the way leaves `out` as it was.
+    let mut spelled = Vec::new(*out.allocator());
+    write_message(value, &mut spelled)?;
+    out.extend_from_slice(&spelled)?;
+    Ok(())
 }
 
 #[tactic(auto, unfolding(crate::specs::Reading::message_of, crate::specs::Reading::whole))]

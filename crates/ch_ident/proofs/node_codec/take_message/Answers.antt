@@ -3,7 +3,7 @@ use Rattle.ch_ident.specs.Fits.{IsMessage}
 use Rattle.ch_ident.specs.Reading.{message_at, message_of}
 use Rattle.ch_ident.specs.Spelling.{message}
 use Rattle.ch_ident.proofs.Messages.{message_reads, is_found, is_only}
-use Rattle.ch_ident.proofs.node_reading.take_message.Goals as goal
+use Rattle.ch_ident.proofs.node_codec.take_message.Goals as goal
 
 pub returns-clause-found : goal.returns-clause-found
 unfolding message_of
