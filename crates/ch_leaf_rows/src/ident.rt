@@ -463,45 +463,80 @@ fn spells_ends_and_named_sends(rt: HostRuntime) -> Result<(), Fail> {
     Ok(())
 }
 
+/// As `both_ways`, for an identifier.
+fn identifier_both_ways(
+    rt: &impl Abort,
+    alloc: Global,
+    id: &Identifier,
+    parts: &[&[u8]],
+) -> Result<(), Fail> {
+    let mut bytes = joined(alloc, parts)?;
+    let mut out = Vec::new(alloc);
+    put_identifier(id, &mut out)?;
+    assert_eq!(rt; out.as_slice(), bytes.as_slice());
+    let shown = format!(in alloc; "{id:?}")?;
+    let read = take_identifier(alloc, &bytes)?;
+    assert_eq!(rt; format!(in alloc; "{read:?}")?, shown);
+    for n in 0..bytes.len() {
+        assert_eq!(rt;
+            take_identifier(alloc, &bytes[..n]).err(),
+            Some(IdentError::Short),
+            "{n} bytes of {shown}"
+        );
+    }
+    bytes.push(0)?;
+    assert_eq!(rt;
+        take_identifier(alloc, &bytes).err(),
+        Some(IdentError::Extra),
+        "{shown}"
+    );
+    Ok(())
+}
+
 #[test]
 fn spells_identifiers(rt: HostRuntime) -> Result<(), Fail> {
     let alloc = rt.alloc();
     let node = Identifier::Node(Address::read(alloc, GREATEST)?);
+    identifier_both_ways(&rt, alloc, &node, &[b"\x00", GREATEST_NODE])?;
     let process = Identifier::Process(least_process(alloc)?);
+    identifier_both_ways(&rt, alloc, &process, &[b"\x01", LEAST_PROCESS])?;
     let port = Identifier::Port(SendPortId {
         process: greatest_process(alloc)?,
         port: 1,
     });
-    let rows: [(&Identifier, &[&[u8]]); 3] = [
-        (&node, &[b"\x00", GREATEST_NODE]),
-        (&process, &[b"\x01", LEAST_PROCESS]),
-        (&port, &[b"\x02", GREATEST_PROCESS, b"\0\0\0\x01"]),
-    ];
-    for (id, parts) in rows {
-        let mut bytes = joined(alloc, parts)?;
-        let mut out = Vec::new(alloc);
-        put_identifier(id, &mut out)?;
-        assert_eq!(rt; out.as_slice(), bytes.as_slice());
-        let shown = format!(in alloc; "{id:?}")?;
-        let read = take_identifier(alloc, &bytes)?;
-        assert_eq!(rt; format!(in alloc; "{read:?}")?, shown);
-        let copy = id.copy()?;
-        assert_eq!(rt; format!(in alloc; "{copy:?}")?, shown);
-        for n in 0..bytes.len() {
-            assert_eq!(rt;
-                take_identifier(alloc, &bytes[..n]).err(),
-                Some(IdentError::Short)
-            );
-        }
-        bytes.push(0)?;
-        assert_eq!(rt;
-            take_identifier(alloc, &bytes).err(),
-            Some(IdentError::Extra)
-        );
-    }
+    identifier_both_ways(
+        &rt,
+        alloc,
+        &port.copy()?,
+        &[b"\x02", GREATEST_PROCESS, b"\0\0\0\x01"],
+    )?;
     assert_eq!(rt;
         take_identifier(alloc, b"\x03").err(),
         Some(IdentError::BadTag)
+    );
+    Ok(())
+}
+
+/// As `both_ways`, for a user's message, whose body ends with the bytes.
+fn user_both_ways(
+    rt: &impl Abort,
+    alloc: Global,
+    mark: &[u8],
+    body: &[u8],
+    parts: &[&[u8]],
+) -> Result<(), Fail> {
+    let bytes = joined(alloc, parts)?;
+    let message = Message {
+        mark: Name::new(alloc, mark)?,
+        body: Text::of(alloc, body)?,
+    };
+    let mut out = Vec::new(alloc);
+    put_user(&message.copy()?, &mut out)?;
+    assert_eq!(rt; out.as_slice(), bytes.as_slice());
+    let read = take_user(alloc, &bytes)?;
+    assert_eq!(rt;
+        format!(in alloc; "{read:?}")?,
+        format!(in alloc; "{message:?}")?
     );
     Ok(())
 }
@@ -513,26 +548,15 @@ fn names_and_user_messages(rt: HostRuntime) -> Result<(), Fail> {
     for bytes in refused {
         assert_eq!(rt; Name::new(alloc, bytes).err(), Some(IdentError::BadText));
     }
-    let users: [(&[u8], &[u8], &[&[u8]]); 3] = [
-        (b"!", b"", &[LEAST_NAME]),
-        (b"t", b"hi", &[b"\x01thi"]),
-        (&LONG_NAME, &LONG_BODY, &[GREATEST_NAME, &LONG_BODY]),
-    ];
-    for (mark, body, parts) in users {
-        let bytes = joined(alloc, parts)?;
-        let message = Message {
-            mark: Name::new(alloc, mark)?,
-            body: Text::of(alloc, body)?,
-        };
-        let mut out = Vec::new(alloc);
-        put_user(&message.copy()?, &mut out)?;
-        assert_eq!(rt; out.as_slice(), bytes.as_slice());
-        let read = take_user(alloc, &bytes)?;
-        assert_eq!(rt;
-            format!(in alloc; "{read:?}")?,
-            format!(in alloc; "{message:?}")?
-        );
-    }
+    user_both_ways(&rt, alloc, b"!", b"", &[LEAST_NAME])?;
+    user_both_ways(&rt, alloc, b"t", b"hi", &[b"\x01thi"])?;
+    user_both_ways(
+        &rt,
+        alloc,
+        &LONG_NAME,
+        &LONG_BODY,
+        &[GREATEST_NAME, &LONG_BODY],
+    )?;
     let faults: [(&[u8], IdentError); 9] = [
         (b"", IdentError::Short),
         (b"\x00", IdentError::BadText),
