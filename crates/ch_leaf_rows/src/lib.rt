@@ -3,3 +3,15 @@
 
 #[cfg(test)]
 mod ident;
+
+#[cfg(test)]
+mod mail;
+
+#[cfg(test)]
+mod static_;
+
+#[cfg(test)]
+mod typed;
+
+#[cfg(test)]
+mod watch;
