@@ -62,9 +62,11 @@ fn mark_of<T: Typed>(alloc: Global) -> Result<Name, OutOfMemory>
     Ok(Name { bytes })
 }
 
-/// The message of a value: the type's mark, and the value's spelling.
+/// The message of a value: the type's mark, and the value's spelling. `unpack` reads the value from it.
+#[tactic(auto, using(crate::proofs::Comings::packed))]
 pub fn pack<T: Typed>(alloc: Global, value: &T) -> Result<Message, OutOfMemory>
-    ensures { IfOk result (λ message. message ≡ record { mark = T.mark; body = T.spelling value.now }) }
+    ensures spelled { IfOk result (λ message. message ≡ record { mark = T.mark; body = T.spelling value.now }) }
+    ensures again { IfOk result (λ message. unpacked T.mark T.read message ≡ Ok value.now) }
 {
     let mark = mark_of::<T>(alloc)?;
     let mut body = Vec::new(alloc);
@@ -75,17 +77,26 @@ pub fn pack<T: Typed>(alloc: Global, value: &T) -> Result<Message, OutOfMemory>
     })
 }
 
+/// The value that the bytes spell.
+fn value_of<T: Typed>(alloc: Global, bytes: &[u8]) -> Result<T, TypedError>
+    ensures exact { Gives result (body_of (T.read bytes.now)) }
+    ensures found { IfOk result (λ value. T.fits value × (T.spelling value ≡ bytes.now)) }
+{
+    T::take(alloc, bytes)
+}
+
 /// The value of a message. It is refused with `WrongMark` exactly where the message's mark isn't the
 /// type's, with both, and then with `BadBody` exactly where the body is no value's spelling.
 pub fn unpack<T: Typed>(alloc: Global, message: &Message) -> Result<T, TypedError>
-    ensures { Gives result (unpacked T.mark T.read message.now) }
+    ensures exact { Gives result (unpacked T.mark T.read message.now) }
+    ensures found { IfOk result (λ value. T.fits value × (T.spelling value ≡ message.now.body)) }
 {
     if message.mark.bytes.as_slice() != T::mark_bytes() {
         let wanted = mark_of::<T>(alloc)?;
         let found = message.mark.copy()?;
         return Err(TypedError::WrongMark { wanted, found });
     }
-    T::take(alloc, message.body.as_slice())
+    value_of(alloc, message.body.as_slice())
 }
 
 /// Takes the first message of the type's mark from a mailbox, and gives its value. It is refused with
