@@ -3,15 +3,11 @@
 
 #[cfg(test)]
 mod ident;
-
 #[cfg(test)]
 mod mail;
-
 #[cfg(test)]
 mod static_;
-
 #[cfg(test)]
 mod typed;
-
 #[cfg(test)]
 mod watch;

@@ -1,7 +1,7 @@
 -- The two ends of a port.
 use Rattle.std.specs.Prelude.{ℕ, List, Result, Ok, Err}
-use Rattle.ch_ident.specs.declared.process.ProcessId.{ProcessId}
-use Rattle.ch_ident.specs.declared.process.SendPortId.{SendPortId}
+use Rattle.ch_ident.specs.declared.identifier.ProcessId.{ProcessId}
+use Rattle.ch_ident.specs.declared.identifier.SendPortId.{SendPortId}
 use Rattle.ch_mail.specs.declared.error.MailError.{MailError}
 use Rattle.ch_mail.specs.Process.{Process}
 use Rattle.ch_mail.specs.Mail.{open_port_of}

@@ -3,8 +3,8 @@ use Rattle.std.specs.Prelude.{ℕ, ◌==◌, List, length, take, Option, Some, N
 use Rattle.std.specs.Int.{w32, w64, from_be_bytes}
 use Rattle.ch_ident.specs.declared.error.IdentError.{IdentError}
 use Rattle.ch_ident.specs.declared.error.IdentError.TheVariants as ident
-use Rattle.ch_ident.specs.declared.process.ProcessId.{ProcessId}
-use Rattle.ch_ident.specs.declared.process.SendPortId.{SendPortId}
+use Rattle.ch_ident.specs.declared.identifier.ProcessId.{ProcessId}
+use Rattle.ch_ident.specs.declared.identifier.SendPortId.{SendPortId}
 use Rattle.ch_ident.specs.declared.identifier.Identifier.{Identifier}
 use Rattle.ch_ident.specs.declared.identifier.Identifier.TheVariants as ends
 use Rattle.ch_ident.specs.Spelling.{identifier}

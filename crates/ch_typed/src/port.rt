@@ -30,7 +30,7 @@ pub struct ReceivePort<T: Typed> {
 }
 
 impl<T: Typed> Model for SendPort<T> {
-    ghost use Rattle.ch_ident.specs.declared.process.SendPortId.{SendPortId};
+    ghost use Rattle.ch_ident.specs.declared.identifier.SendPortId.{SendPortId};
 
     ghost Value = { SendPortId };
 

@@ -4,7 +4,7 @@ use Rattle.std.specs.Str.{bytes_eq}
 use Rattle.ch_base.specs.declared.address.Address.{Address}
 use Rattle.ch_ident.specs.declared.identifier.Identifier.{Identifier}
 use Rattle.ch_ident.specs.declared.identifier.Identifier.TheVariants.{Node, Process, Port}
-use Rattle.ch_ident.specs.declared.process.Ref.{Ref}
+use Rattle.ch_ident.specs.declared.identifier.Ref.{Ref}
 
 -- the node at which an identifier is
 unfoldable pub node_of : Identifier → Address

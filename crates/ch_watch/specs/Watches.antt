@@ -6,7 +6,7 @@ use Rattle.ch_base.specs.declared.address.Address.{Address}
 use Rattle.ch_base.specs.declared.memory.Stop.{Stop}
 use Rattle.ch_base.specs.declared.memory.Stop.TheVariants as stops
 use Rattle.ch_ident.specs.declared.identifier.Identifier.{Identifier}
-use Rattle.ch_ident.specs.declared.process.Ref.{Ref}
+use Rattle.ch_ident.specs.declared.identifier.Ref.{Ref}
 use Rattle.ch_watch.specs.declared.error.WatchError.{WatchError}
 use Rattle.ch_watch.specs.declared.error.WatchError.TheVariants.{Taken, NoName, NoRef, OutOfMemory}
 use Rattle.ch_watch.specs.declared.waiting.Kind.{Kind}

@@ -40,7 +40,7 @@ impl Model for Names {
 
 impl Model for Refs {
     ghost use Rattle.std.specs.Prelude.{List};
-    ghost use Rattle.ch_ident.specs.declared.process.Ref.{Ref};
+    ghost use Rattle.ch_ident.specs.declared.identifier.Ref.{Ref};
 
     ghost Value = { List Ref };
 
