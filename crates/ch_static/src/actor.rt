@@ -1,6 +1,6 @@
 //! Who chooses a process's commands: an actor turn by turn, and a program that has an actor for each label.
 
-ghost use Rattle.std.specs.Prelude.{◌≡◌, ◌≢◌, ◌↔◌, IfOk, OnErr, IsSome, IsTrue, List, ℕ, Bool};
+ghost use Rattle.std.specs.Prelude.{◌≡◌, ◌≢◌, if◌then◌else◌, IfOk, OnErr, Some, None, List, ℕ, Bool};
 ghost use Rattle.ch_static.specs.declared.actor.Reply.{Reply};
 ghost use Rattle.ch_static.specs.declared.actor.Turn.{Turn};
 
@@ -64,10 +64,17 @@ pub trait Program {
     ghost has: { Self → List ℕ → Bool };
 
     /// The actor of a process that no spawn made.
-    fn start(&self) -> Result<Self::Actor, OutOfMemory>;
+    ghost starter: { Self → Self.Actor };
+
+    /// The actor of a label and arguments.
+    ghost worker: { Self → List ℕ → List ℕ → Self.Actor };
+
+    /// The actor of a process that no spawn made.
+    fn start(&self) -> Result<Self::Actor, OutOfMemory>
+        ensures { IfOk result (λ actor. actor ≡ starter self.now) };
 
     /// The actor of a process that was spawned with this label and these arguments. It is `None` exactly
     /// where the program hasn't the label.
     fn make(&self, label: &Name, args: &[u8]) -> Result<Option<Self::Actor>, OutOfMemory>
-        ensures { IfOk result (λ made. IsSome made ↔ IsTrue (has self.now label.now)) };
+        ensures { IfOk result (λ made. made ≡ (if has self.now label.now then Some (worker self.now label.now args.now) else None)) };
 }

@@ -1,6 +1,7 @@
 //! The labels that a node knows.
 
 ghost use Rattle.std.specs.Prelude.{◌≡◌, [], IfOk, OnErr, MatchResult, Some, None};
+ghost use Rattle.std.specs.Str.{bytes_eq};
 
 use crate::closure::{Closure, Unlabelled};
 use ch_base::OutOfMemory;
@@ -64,8 +65,12 @@ impl Table {
     fn place(&self, label: &Name) -> Option<usize>
         ensures { result ≡ place_of self.now label.now }
     {
-        self.labels
-            .iter()
-            .position(|own| own.as_slice() == label.as_slice())
+        self.labels.iter().position(|own| is_same(own, label))
     }
+}
+
+fn is_same(a: &Name, b: &Name) -> bool
+    ensures { result ≡ bytes_eq a.now b.now }
+{
+    a.bytes.as_slice() == b.bytes.as_slice()
 }

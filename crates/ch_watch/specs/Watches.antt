@@ -1,22 +1,23 @@
 -- What each call makes of a node's watches and names.
-use Rattle.std.specs.Prelude.{◌≡◌, ℕ, ◌+◌, Bool, true, false, not, ◌&&◌, ◌==◌, List, [], ◌∷◌, ◌++◌, map, find, filter, Option, Some, None, Result, Ok, Err, nat_lt, if◌then◌else◌}
+use Rattle.std.specs.Prelude.{◌≡◌, ℕ, ◌+◌, Bool, not, ◌==◌, List, [], ◌∷◌, ◌++◌, map, find, filter, Option, Some, None, Result, Ok, Err, nat_lt, if◌then◌else◌}
 use Rattle.std.specs.Option.{option_map}
 use Rattle.std.specs.List.{list_any}
-use Rattle.std.specs.Str.{bytes_eq}
 use Rattle.ch_base.specs.declared.address.Address.{Address}
 use Rattle.ch_base.specs.declared.memory.Stop.{Stop}
 use Rattle.ch_base.specs.declared.memory.Stop.TheVariants as stops
 use Rattle.ch_ident.specs.declared.identifier.Identifier.{Identifier}
-use Rattle.ch_ident.specs.declared.identifier.Identifier.TheVariants.{Node, Process, Port}
 use Rattle.ch_ident.specs.declared.identifier.Ref.{Ref}
 use Rattle.ch_watch.specs.declared.error.WatchError.{WatchError}
 use Rattle.ch_watch.specs.declared.error.WatchError.TheVariants.{Taken, NoName, NoRef, OutOfMemory}
 use Rattle.ch_watch.specs.declared.waiting.Kind.{Kind}
-use Rattle.ch_watch.specs.declared.waiting.Kind.TheVariants.{Monitor, Link, Spawn, Ask}
 use Rattle.ch_watch.specs.declared.waiting.Waiting.{Waiting}
 use Rattle.ch_watch.specs.declared.watched.Watched.{Watched}
-use Rattle.ch_watch.specs.declared.watched.Named.{Named}
-use Rattle.ch_watch.specs.declared.watched.Ending.{Ending}
+use Rattle.ch_watch.specs.declared.named.Named.{Named}
+use Rattle.ch_watch.specs.declared.ending.Ending.{Ending}
+use Rattle.ch_watch.specs.Firsts.{first_that}
+use Rattle.ch_watch.specs.Same.{same_node, same_ref}
+use Rattle.ch_watch.specs.Open.{has_number, is_watch_of, awaits}
+use Rattle.ch_watch.specs.Names.{has_name}
 use Rattle.ch_watch.specs.Lists.{Lists}
 
 infixl 10 ◌>>=◌
@@ -30,20 +31,15 @@ abbrev pub Fails : {A : Type 0} → WatchError → Result A WatchError → Type 
 Fails OutOfMemory given = Unit {0}
 Fails e given = given ≡ Err e
 
+-- a stop is the one that is defined, but that want of memory may come at any call
+abbrev pub Stops : {A : Type 0} → Stop → Result A Stop → Type 0
+Stops stops.OutOfMemory given = Unit {0}
+Stops stops.Worn given = given ≡ Err stops.Worn
+
 -- what is there, or the refusal where it isn't
 abbrev pub there_or : {A : Type 0} → WatchError → Option A → Result A WatchError
 there_or e None = Err e
 there_or e (Some x) = Ok x
-
--- what is left where an element stands before the one that is taken out
-abbrev pub after_passing : {A : Type 0} → A → Option (A × List A) → Option (A × List A)
-after_passing passed None = None
-after_passing passed (Some taken) = Some (taken.0, passed ∷ taken.1)
-
--- the first element that passes a test, and the others in their order
-abbrev pub first_that : {A : Type 0} → (A → Bool) → List A → Option (A × List A)
-first_that test [] = None
-first_that test (x ∷ xs) = if test x then Some (x, xs) else after_passing x (first_that test xs)
 
 -- the last value of the counter of numbers
 abbrev pub last_u32 : ℕ
@@ -54,35 +50,6 @@ unfoldable pub nothing : Lists
 nothing = record { next = 0; waiting = []; watched = []; names = [] }
 
 -- ---- open numbers
-
--- a number is open for a monitor or a link, and not for an answer
-abbrev pub is_watch : Kind → Bool
-is_watch Monitor = true
-is_watch Link = true
-is_watch Spawn = false
-is_watch Ask = false
-
--- an open number is a monitor or link of that owner, under that number
-unfoldable pub is_watch_of : ℕ → ℕ → Waiting → Bool
-is_watch_of owner number waiting = (waiting.number == number) && ((waiting.owner == owner) && is_watch waiting.kind)
-
--- the node at which an identifier is
-unfoldable pub node_of : Identifier → Address
-node_of (Node node) = node
-node_of (Process process) = process.node
-node_of (Port port) = port.process.node
-
--- two addresses are one
-unfoldable pub same_node : Address → Address → Bool
-same_node a b = bytes_eq a.host b.host && ((a.port == b.port) && (a.id == b.id))
-
--- two references are one
-unfoldable pub same_ref : Ref → Ref → Bool
-same_ref a b = same_node a.node b.node && (a.number == b.number)
-
--- an open number awaits something of that node
-unfoldable pub awaits : Address → Waiting → Bool
-awaits peer waiting = same_node (node_of waiting.target) peer
 
 -- the next number is opened, while the counter can grow
 unfoldable pub watch_of : Lists → ℕ → Kind → Identifier → Result (ℕ × Lists) Stop
@@ -97,7 +64,7 @@ unwatch_of lists owner number = do
 -- an open number of any kind is closed
 unfoldable pub told_of : Lists → ℕ → Result (Waiting × Lists) WatchError
 told_of lists number = do
-  closed ← there_or NoRef (first_that (λ waiting. waiting.number == number) lists.waiting)
+  closed ← there_or NoRef (first_that (has_number number) lists.waiting)
   Ok (closed.0, record lists { waiting = closed.1 })
 
 -- the monitor or link of that owner that is open under a number
@@ -120,30 +87,26 @@ forget_of lists watch = (list_any (λ watched. same_ref watched.watch watch) lis
 
 -- ---- the end of a process
 
--- the names of a process, in order of registering
-unfoldable pub names_of : Lists → ℕ → List (List ℕ)
-names_of lists process = map (λ named. named.name) (filter (λ named. named.process == process) lists.names)
-
--- the watches kept on a process, in order of arrival
-unfoldable pub watches_on : Lists → ℕ → List Ref
-watches_on lists process = map (λ watched. watched.watch) (filter (λ watched. watched.process == process) lists.watched)
+-- what the end of a process leaves to be told: its names in order of registering, and the watches on it in order of arrival
+unfoldable pub ending_of : List Named → List Watched → ℕ → Ending
+ending_of names watched process = record { names = map (λ named. named.name) (filter (λ named. named.process == process) names); watches = map (λ watched. watched.watch) (filter (λ watched. watched.process == process) watched) }
 
 -- the end of a process hands out its names and the watches on it, drops both, and closes its own numbers
 unfoldable pub ended_of : Lists → ℕ → Ending × Lists
-ended_of lists process = (record { names = names_of lists process; watches = watches_on lists process }, record lists { waiting = filter (λ waiting. not (waiting.owner == process)) lists.waiting; watched = filter (λ watched. not (watched.process == process)) lists.watched; names = filter (λ named. not (named.process == process)) lists.names })
+ended_of lists process = (ending_of lists.names lists.watched process, record lists { waiting = filter (λ waiting. not (waiting.owner == process)) lists.waiting; watched = filter (λ watched. not (watched.process == process)) lists.watched; names = filter (λ named. not (named.process == process)) lists.names })
 
 -- ---- names
 
 -- a name that stands for no process is registered
 unfoldable pub register_of : Lists → List ℕ → ℕ → Result Lists WatchError
-register_of lists name process = if list_any (λ named. bytes_eq named.name name) lists.names then Err Taken else Ok (record lists { names = lists.names ++ record { name = name; process = process } ∷ [] })
+register_of lists name process = if list_any (has_name name) lists.names then Err Taken else Ok (record lists { names = lists.names ++ record { name = name; process = process } ∷ [] })
 
 -- a name falls away, and with it is told the process that it stood for
 unfoldable pub unregister_of : Lists → List ℕ → Result (ℕ × Lists) WatchError
 unregister_of lists name = do
-  named ← there_or NoName (first_that (λ named. bytes_eq named.name name) lists.names)
+  named ← there_or NoName (first_that (has_name name) lists.names)
   Ok (named.0.process, record lists { names = named.1 })
 
 -- the process for which a name stands
 unfoldable pub find_of : Lists → List ℕ → Option ℕ
-find_of lists name = option_map (λ named. named.process) (find (λ named. bytes_eq named.name name) lists.names)
+find_of lists name = option_map (λ named. named.process) (find (has_name name) lists.names)

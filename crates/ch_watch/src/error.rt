@@ -4,6 +4,7 @@ ghost use Rattle.std.specs.Prelude.{◌≡◌};
 ghost use Rattle.ch_watch.specs.declared.error.WatchError.TheVariants.{OutOfMemory as watch_out_of_memory};
 
 use ch_base::OutOfMemory;
+use std::alloc::AllocFailed;
 
 /// Why a call is refused.
 #[derive(Clone, Copy, Debug, PartialEq, Eq)]
@@ -22,6 +23,14 @@ impl From<OutOfMemory> for WatchError {
     ghost from_gives = { λ _ e. e ≡ watch_out_of_memory };
 
     fn from(_e: OutOfMemory) -> WatchError {
+        WatchError::OutOfMemory
+    }
+}
+
+impl<T: Drop> From<AllocFailed<T>> for WatchError {
+    ghost from_gives = { λ _ e. e ≡ watch_out_of_memory };
+
+    fn from(_e: AllocFailed<T>) -> WatchError {
         WatchError::OutOfMemory
     }
 }

@@ -4,9 +4,15 @@
 //! spawn and question, keeps here who watches its own processes, and registers its names here.
 #![tactic(auto)]
 
+mod ending;
 mod error;
+mod named;
+mod same;
 mod waiting;
 mod watched;
+mod watches;
 
+pub use ending::{Ending, Names, Refs};
 pub use error::WatchError;
 pub use waiting::{Kind, Waiting};
+pub use watches::Watches;
