@@ -1,0 +1,5 @@
+pub mod Items
+pub mod Streams
+pub mod Reading
+pub mod States
+pub mod Runs

@@ -1,0 +1,11 @@
+//! The reader of one direction of a socket: bytes in any pieces go in, items come out.
+//!
+//! The layouts of the items stand below, in `ch_wire`; hosts stand above. A peer can send anything:
+//! the reader never holds more than one item, never looks back, and refuses at the earliest byte
+//! that can be wrong.
+#![tactic(auto)]
+
+mod front;
+mod item;
+
+pub use item::{Item, ReaderError, Role};
