@@ -3,3 +3,4 @@ pub mod Streams
 pub mod Reading
 pub mod States
 pub mod Runs
+pub mod Keeping

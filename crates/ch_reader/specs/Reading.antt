@@ -15,12 +15,12 @@ use Rattle.ch_reader.specs.declared.item.Item.{Item}
 use Rattle.ch_reader.specs.declared.item.Item.TheVariants as items
 use Rattle.ch_reader.specs.declared.item.ReaderError.{ReaderError}
 use Rattle.ch_reader.specs.declared.item.ReaderError.TheVariants.{UnknownControl, PayloadLong, AddressLong, BadAddress, BadAnswer}
-use Rattle.ch_reader.specs.declared.front.Front.{Front}
-use Rattle.ch_reader.specs.declared.front.Front.TheVariants.{Unfinished, Whole, Refused}
-use Rattle.ch_reader.specs.declared.front.Glance.{Glance}
-use Rattle.ch_reader.specs.declared.front.Glance.TheVariants.{Settled, Body}
-use Rattle.ch_reader.specs.declared.front.Opened.{Opened}
-use Rattle.ch_reader.specs.declared.front.Opened.TheVariants as opened
+use Rattle.ch_reader.specs.declared.item.Front.{Front}
+use Rattle.ch_reader.specs.declared.item.Front.TheVariants.{Unfinished, Whole, Refused}
+use Rattle.ch_reader.specs.declared.glance.Glance.{Glance}
+use Rattle.ch_reader.specs.declared.glance.Glance.TheVariants.{Settled, Body}
+use Rattle.ch_reader.specs.declared.glance.Opened.{Opened}
+use Rattle.ch_reader.specs.declared.glance.Opened.TheVariants as opened
 use Rattle.ch_reader.specs.Streams.{first_word, second_word}
 
 -- how many bytes of words a frame with this head has

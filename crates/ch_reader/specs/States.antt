@@ -5,8 +5,8 @@ use Rattle.ch_reader.specs.declared.item.Expected.TheVariants as expected
 use Rattle.ch_reader.specs.declared.item.Item.{Item}
 use Rattle.ch_reader.specs.declared.item.ReaderError.{ReaderError}
 use Rattle.ch_reader.specs.declared.item.Role.{Role}
-use Rattle.ch_reader.specs.declared.front.Front.{Front}
-use Rattle.ch_reader.specs.declared.front.Front.TheVariants.{Unfinished, Whole, Refused}
+use Rattle.ch_reader.specs.declared.item.Front.{Front}
+use Rattle.ch_reader.specs.declared.item.Front.TheVariants.{Unfinished, Whole, Refused}
 use Rattle.ch_reader.specs.Items.{first_expected, item_spelling}
 use Rattle.ch_reader.specs.Reading.{reading}
 

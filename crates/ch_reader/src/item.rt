@@ -51,3 +51,12 @@ pub(crate) enum Expected {
     Answer,
     Frame,
 }
+
+/// What stands at the front.
+#[derive(Debug, Drop)]
+pub(crate) enum Front {
+    /// Less than a whole item.
+    Unfinished,
+    Whole(Item),
+    Refused(ReaderError),
+}

@@ -5,7 +5,11 @@
 //! that can be wrong.
 #![tactic(auto)]
 
-mod front;
+mod body;
+mod glance;
 mod item;
+mod reader;
+mod words;
 
 pub use item::{Item, ReaderError, Role};
+pub use reader::Reader;

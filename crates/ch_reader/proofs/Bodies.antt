@@ -1,0 +1,36 @@
+-- How a body goes on and ends.
+use Rattle.std.proofs.Common.{◌≡◌, ℕ, ◌+◌, ◌-◌, ◌<◌, ◌≤◌, Bool, true, false, cond, ltb, nat_lt, List, ◌++◌, length, take, Result, Ok, Err, refl, sym, ap, ◌∙◌, arith}
+use Rattle.std.proofs.Math.Seq.{take-append_seam}
+use Rattle.std.proofs.lemmas.Bool.{le-ltb}
+use Rattle.std.proofs.lemmas.List.{length-append}
+use Rattle.ch_base.specs.AddressValues.{AddressValue}
+use Rattle.ch_base.specs.Addresses.{read_address}
+use Rattle.ch_base.specs.declared.address.AddressError.{AddressError}
+use Rattle.ch_reader.specs.declared.item.Front.{Front}
+use Rattle.ch_reader.specs.declared.item.Front.TheVariants.{Unfinished, Whole, Refused}
+use Rattle.ch_reader.specs.declared.glance.Opened.{Opened}
+use Rattle.ch_reader.specs.declared.glance.Opened.TheVariants as opened
+use Rattle.ch_reader.specs.declared.glance.Glance.TheVariants.{Settled, Body}
+use Rattle.ch_reader.specs.Reading.{request_front, body_front, rest_reading}
+use Rattle.ch_reader.specs.Keeping.{Continues}
+
+request_ends : (target : ℕ) (read : Result AddressValue AddressError) → request_front target read ≡ Unfinished → ⊥
+request_ends target (Ok a) e = cc
+request_ends target (Err x) e = cc
+
+-- a whole body ends something
+pub body_ends : (o : Opened) (body : List ℕ) → body_front o body ≡ Unfinished → ⊥
+body_ends (opened.Request target) body e = request_ends target (read_address body) e
+body_ends (opened.Data id) body e = cc
+
+-- what is read where the count is reached
+pub body_whole : (o : Opened) (count : ℕ) (rest : List ℕ) → count ≤ length rest → rest_reading (Body o count) rest ≡ (body_front o (take count rest), count)
+body_whole o count rest le = rw (le-ltb (length rest) count le) refl
+
+-- a body that its last bytes end
+pub ends_body : (o : Opened) (count : ℕ) (body rest now : List ℕ) (front : Front) → length body ≤ count → count - length body ≤ length rest → front ≡ body_front o (body ++ take (count - length body) rest) → Continues (Body o count) body rest front (count - length body) now
+ends_body o count body rest now front fits enough e =
+    let sum : length body + (count - length body) ≡ count = omega arith in
+    let text : take count (body ++ rest) ≡ body ++ take (count - length body) rest = ap (λ (k : ℕ). take k (body ++ rest)) (sym sum) ∙ take-append_seam body rest (count - length body) in
+    let whole = body_whole o count (body ++ rest) (omega (arith, length-append body rest)) in
+    (rw (whole, text, ← e, sum) refl, λ (u : front ≡ Unfinished). absurd (body_ends o (body ++ take (count - length body) rest) (sym e ∙ u)))
