@@ -1,1 +1,4 @@
 pub mod Bodies
+pub mod Headers
+pub mod Readings
+pub mod Feeding
