@@ -37,7 +37,7 @@ frame_size_cases (heads.Data id) = inr refl
 frame_size_cases heads.Unknown = inl refl
 
 -- the size of a frame's words, with its test apart
-abbrev frame_size : Bool → Head → ℕ
+abbrev pub frame_size : Bool → Head → ℕ
 frame_size short h = cond short 4 (frame_header_size h)
 
 frame_size_bounds : (short : Bool) (h : Head) → (4 ≤ frame_size short h) × (frame_size short h ≤ 8)

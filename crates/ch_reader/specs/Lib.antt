@@ -4,3 +4,5 @@ pub mod Reading
 pub mod States
 pub mod Runs
 pub mod Keeping
+pub mod Decoding
+pub mod Laws

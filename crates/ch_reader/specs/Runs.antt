@@ -1,8 +1,9 @@
 -- Any list of feeds and takes, and what it comes to.
-use Rattle.std.specs.Prelude.{◌≡◌, ℕ, ◌<◌, List, [], ◌∷◌, ◌++◌, take, Option, Some, None, Result, Ok, Err, All}
+use Rattle.std.specs.Prelude.{◌≡◌, ℕ, ◌<◌, List, [], ◌∷◌, ◌++◌, take, Option, Some, None, Result, Ok, Err, slice_index}
 use Rattle.ch_reader.specs.declared.item.Item.{Item}
 use Rattle.ch_reader.specs.declared.item.ReaderError.{ReaderError}
 use Rattle.ch_reader.specs.declared.item.Role.{Role}
+use Rattle.ch_reader.specs.Items.{first_expected, expected_after}
 use Rattle.ch_reader.specs.Streams.{IsStream, IsMalformed}
 use Rattle.ch_reader.specs.States.{State, Waits, Holds, Refuses, start, fed, taken}
 
@@ -38,13 +39,17 @@ abbrev pub run : Past → List Call → Past
 run p [] = p
 run p (call ∷ calls) = run (after p call) calls
 
--- each piece that is fed is bytes
-abbrev pub AreBytes : Call → Type 0
-AreBytes (Feed piece) = All (λ b. b < 256) piece
-AreBytes Take = Unit {0}
+-- each of these numbers is a byte
+abbrev pub IsBytes : List ℕ → Type 0
+IsBytes bytes = (i : ℕ) → slice_index bytes i < 256
+
+-- what is fed is bytes
+abbrev pub FeedsBytes : Call → Type 0
+FeedsBytes (Feed piece) = IsBytes piece
+FeedsBytes Take = Unit {0}
 
 -- what the bytes taken are, by what the reader is
 abbrev pub Accounts : Role → List ℕ → List Item → State → Type 0
-Accounts role bytes items (Waits e since) = IsStream role bytes items since
+Accounts role bytes items (Waits e since) = (e ≡ expected_after (first_expected role) items) × IsStream role bytes items since
 Accounts role bytes items (Holds item) = IsStream role bytes (items ++ item ∷ []) []
-Accounts role bytes items (Refuses error) = IsMalformed role bytes error
+Accounts role bytes items (Refuses error) = (malformed : IsMalformed role bytes error) × (malformed.items ≡ items)

@@ -8,8 +8,10 @@
 mod body;
 mod glance;
 mod item;
+mod law;
 mod reader;
 mod words;
 
 pub use item::{Item, ReaderError, Role};
+pub use law::streams_are_one;
 pub use reader::Reader;
