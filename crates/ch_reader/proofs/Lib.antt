@@ -5,3 +5,4 @@ pub mod Feeding
 pub mod Complete
 pub mod Sound
 pub mod Streams
+pub mod Runs

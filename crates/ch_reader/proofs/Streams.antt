@@ -117,3 +117,9 @@ decodes_once role bytes items others (Some x) None p q =
 decodes_once role bytes items others (Some x) (Some y) p q =
     let a = agree (first_expected role) bytes p.3.items q.3.items (p.3.last ++ p.1) (q.3.last ++ q.1) (Refused x) (Refused y) (malformed_reads (first_expected role) bytes p.0 p.1 x p.3 p.2) (malformed_reads (first_expected role) bytes q.0 q.1 y q.3 q.2) in
     (sym p.4 ∙ a.0 ∙ q.4, ap Some (refused_is x y a.2))
+
+-- no item's spelling begins another's that may stand there
+pub items_apart : (e : Expected) (i j : Item) (x y : List ℕ) → MayStand e i → MayStand e j → item_spelling i ++ x ≡ item_spelling j ++ y → (i ≡ j) × (x ≡ y)
+items_apart e i j x y p q h =
+    let same : i ≡ j = whole_is i j (ap (λ (r : Front × ℕ). r.0) (sym (reads_item e i x p) ∙ ap (reading e) h ∙ reads_item e j y q)) in
+    (same, append_cancel_left (item_spelling j) x y (ap (λ (k : Item). item_spelling k ++ x) (sym same) ∙ h))

@@ -13,5 +13,5 @@ mod reader;
 mod words;
 
 pub use item::{Item, ReaderError, Role};
-pub use law::streams_are_one;
+pub use law::{runs_are_streams, streams_are_one};
 pub use reader::Reader;
