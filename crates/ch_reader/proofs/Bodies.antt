@@ -41,7 +41,7 @@ pub ends_body : (o : Opened) (count : ℕ) (body was rest now : List ℕ) (front
 ends_body o count body was rest now front had len same fits enough e =
     let sum : length body + (count - had) ≡ count = omega arith in
     let text : take count (body ++ rest) ≡ was ++ take (count - had) rest =
-        ap (λ (k : ℕ). take k (body ++ rest)) (sym sum) ∙ take-append-add body rest (count - had) ∙ ap (λ (xs : List ℕ). xs ++ take (count - had) rest) (sym same) in
+    ap (λ (k : ℕ). take k (body ++ rest)) (sym sum) ∙ take-append-add body rest (count - had) ∙ ap (λ (xs : List ℕ). xs ++ take (count - had) rest) (sym same) in
     let whole = body_whole o count (body ++ rest) (omega (arith, length-append body rest)) in
     let found : rest_reading (Body o count) (body ++ rest) ≡ (front, length body + (count - had)) = whole ∙ pair (ap (body_front o) text ∙ sym e) (sym sum) in
     (sym found, λ (u : front ≡ Unfinished). absurd (body_ends o (was ++ take (count - had) rest) (sym e ∙ u)))

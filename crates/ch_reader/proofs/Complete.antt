@@ -125,16 +125,16 @@ frame_reads (frames.Data id payload) rest fits =
     let bytes : List ℕ = counted id payload ++ rest in
     let first : first_word bytes ≡ id = ap first_word (counted_regrouped id payload rest) ∙ word_front id (word (length payload) ++ (payload ++ rest)) fits.0.1 in
     counted_item expected.Frame (opened.Data id) id payload rest fits.0.1 (omega (arith, fits.1))
-      (frame_size_is bytes (heads.Data id) (omega arith) (ap head_numbered first ∙ is))
-      (λ xs t. frame_words_are xs (heads.Data id) (ap head_numbered t.first_is ∙ is) ∙ (ap (frame_glance (heads.Data id)) t.second_is ∙ counted_begins (opened.Data id) MOST_PAYLOAD_BYTES PayloadLong (length payload) fits.1))
+    (frame_size_is bytes (heads.Data id) (omega arith) (ap head_numbered first ∙ is))
+    (λ xs t. frame_words_are xs (heads.Data id) (ap head_numbered t.first_is ∙ is) ∙ (ap (frame_glance (heads.Data id)) t.second_is ∙ counted_begins (opened.Data id) MOST_PAYLOAD_BYTES PayloadLong (length payload) fits.1))
     ∙ ap (at (Whole (items.Frame (frames.Data id payload)))) (omega arith)
 
 request_reads : (r : Request) (rest : List ℕ) → IsRequest r → reading expected.Request (request_spelling r ++ rest) ≡ at (Whole (items.Request r)) (length (request_spelling r))
 request_reads r rest fits =
     let text : List ℕ = address_text r.from in
     counted_item expected.Request (opened.Request r.target) r.target text rest fits.target (omega (arith, fits.address.short)) refl
-      (λ xs t. ap (λ (n : ℕ). counted_body (opened.Request n) MOST_ADDRESS_BYTES AddressLong (second_word xs)) t.first_is
-          ∙ (ap (counted_body (opened.Request r.target) MOST_ADDRESS_BYTES AddressLong) t.second_is ∙ counted_begins (opened.Request r.target) MOST_ADDRESS_BYTES AddressLong (length text) fits.address.short))
+    (λ xs t. ap (λ (n : ℕ). counted_body (opened.Request n) MOST_ADDRESS_BYTES AddressLong (second_word xs)) t.first_is
+    ∙ (ap (counted_body (opened.Request r.target) MOST_ADDRESS_BYTES AddressLong) t.second_is ∙ counted_begins (opened.Request r.target) MOST_ADDRESS_BYTES AddressLong (length text) fits.address.short))
     ∙ ap (λ (x : Result AddressValue AddressError). at (request_front r.target x) (8 + length text)) (read_again r.from fits.address)
     ∙ ap (at (Whole (items.Request r))) (omega arith)
 
@@ -154,7 +154,7 @@ answer_again Mismatch = refl
 answer_reads : (a : Answer) (rest : List ℕ) → reading expected.Answer (answer_spelling a ++ rest) ≡ at (Whole (items.Answer a)) 4
 answer_reads a rest =
     settled_reads expected.Answer (answer_spelling a ++ rest) (Whole (items.Answer a)) 4 refl (omega arith)
-      (ap (λ (n : ℕ). answer_glance (answer_numbered n)) (word_front (answer_number a) rest (answer_is_word a)) ∙ ap answer_glance (answer_again a))
+    (ap (λ (n : ℕ). answer_glance (answer_numbered n)) (word_front (answer_number a) rest (answer_is_word a)) ∙ ap answer_glance (answer_again a))
 
 -- a spelled item is read, whatever follows
 pub reads_item : (e : Expected) (item : Item) (rest : List ℕ) → MayStand e item → reading e (item_spelling item ++ rest) ≡ at (Whole item) (length (item_spelling item))
@@ -208,20 +208,20 @@ refused_address target (Err x) h = refl
 pub reads_refusal : (e : Expected) (error : ReaderError) (last more : List ℕ) → IsRefusal e error last → reading e (last ++ more) ≡ at (Refused error) (length last)
 reads_refusal expected.Request AddressLong last more p =
     settled_reads expected.Request (last ++ more) (Refused AddressLong) 8 refl (omega (arith, length-append last more))
-      (ap (counted_body (opened.Request (first_word (last ++ more))) MOST_ADDRESS_BYTES AddressLong) (second_word_front last more (omega arith)) ∙ counted_refuses (opened.Request (first_word (last ++ more))) MOST_ADDRESS_BYTES AddressLong (second_word last) p.1)
+    (ap (counted_body (opened.Request (first_word (last ++ more))) MOST_ADDRESS_BYTES AddressLong) (second_word_front last more (omega arith)) ∙ counted_refuses (opened.Request (first_word (last ++ more))) MOST_ADDRESS_BYTES AddressLong (second_word last) p.1)
     ∙ ap (at (Refused AddressLong)) (sym p.0)
 reads_refusal expected.Request BadAddress last more p =
     let target : ℕ = first_word (last ++ more) in
     let count : ℕ = second_word last in
     let len : length (drop 8 last) ≡ count = omega (arith, length-drop 8 last, p.2) in
     body_reads expected.Request (last ++ more) (opened.Request target) count (drop 8 last ++ more) refl (omega (arith, length-append last more))
-      (ap (counted_body (opened.Request target) MOST_ADDRESS_BYTES AddressLong) (second_word_front last more p.0) ∙ counted_begins (opened.Request target) MOST_ADDRESS_BYTES AddressLong count p.1)
-      (drop-append-le 8 last more p.0) (omega (arith, length-append (drop 8 last) more))
+    (ap (counted_body (opened.Request target) MOST_ADDRESS_BYTES AddressLong) (second_word_front last more p.0) ∙ counted_begins (opened.Request target) MOST_ADDRESS_BYTES AddressLong count p.1)
+    (drop-append-le 8 last more p.0) (omega (arith, length-append (drop 8 last) more))
     ∙ ap (λ (xs : List ℕ). at (body_front (opened.Request target) xs) (8 + count)) (take_at (drop 8 last) more count len)
     ∙ pair (refused_address target (read_address (drop 8 last)) p.3) (sym p.2)
 reads_refusal expected.Answer BadAnswer last more p =
     settled_reads expected.Answer (last ++ more) (Refused BadAnswer) 4 refl (omega (arith, length-append last more))
-      (ap (λ (n : ℕ). answer_glance (answer_numbered n)) (first_word_front last more (omega arith)) ∙ ap answer_glance (no_answer (first_word last) p.1))
+    (ap (λ (n : ℕ). answer_glance (answer_numbered n)) (first_word_front last more (omega arith)) ∙ ap answer_glance (no_answer (first_word last) p.1))
     ∙ ap (at (Refused BadAnswer)) (sym p.0)
 reads_refusal expected.Frame UnknownControl last more p =
     let is : head_numbered (first_word (last ++ more)) ≡ heads.Unknown = ap head_numbered (first_word_front last more (omega arith)) ∙ unknown (first_word last) p.1 in
@@ -231,6 +231,6 @@ reads_refusal expected.Frame PayloadLong last more p =
     let id : ℕ = first_word last in
     let is : head_numbered (first_word (last ++ more)) ≡ heads.Data id = ap head_numbered (first_word_front last more (omega arith)) ∙ connection id p.1 in
     settled_reads expected.Frame (last ++ more) (Refused PayloadLong) 8 (frame_size_is (last ++ more) (heads.Data id) (omega (arith, length-append last more)) is) (omega (arith, length-append last more))
-      (frame_words_are (last ++ more) (heads.Data id) is ∙ (ap (frame_glance (heads.Data id)) (second_word_front last more (omega arith)) ∙ counted_refuses (opened.Data id) MOST_PAYLOAD_BYTES PayloadLong (second_word last) p.2))
+    (frame_words_are (last ++ more) (heads.Data id) is ∙ (ap (frame_glance (heads.Data id)) (second_word_front last more (omega arith)) ∙ counted_refuses (opened.Data id) MOST_PAYLOAD_BYTES PayloadLong (second_word last) p.2))
     ∙ ap (at (Refused PayloadLong)) (sym p.0)
 reads_refusal e error last more p = absurd p

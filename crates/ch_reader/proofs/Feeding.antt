@@ -112,9 +112,9 @@ finds_by e since all words body rest after front n k (Settled settled) h s len l
           ap (λ (xs : List ℕ). words ++ xs) none ∙ whole_front e all words (body ++ rest) s short;
     }
   where
-  count_settled : (w m t b i j : ℕ) → w ≡ m → w ≡ t - b + i → b ≤ t → (b ≡ 0) ⊎ (i ≡ 0) → j ≡ 0 → m + 0 - t ≡ i + j
-  count_settled w m t b i j p q r (inl z) y = omega arith
-  count_settled w m t b i j p q r (inr z) y = omega arith
+    count_settled : (w m t b i j : ℕ) → w ≡ m → w ≡ t - b + i → b ≤ t → (b ≡ 0) ⊎ (i ≡ 0) → j ≡ 0 → m + 0 - t ≡ i + j
+    count_settled w m t b i j p q r (inl z) y = omega arith
+    count_settled w m t b i j p q r (inr z) y = omega arith
 finds_by e since all words body rest after front n k (Body o count) h s len le small c =
     let size : ℕ = header_size e all in
     let r : reading e all ≡ read_by size (length all) (drop size all) (Body o count) = reading_by e all (Body o count) h in
@@ -128,12 +128,14 @@ finds_by e since all words body rest after front n k (Body o count) h s len le s
       kept = λ (u : front ≡ Unfinished). ap (λ (xs : List ℕ). words ++ xs) (c.1 u) ∙ sym s.whole;
     }
   where
-  count_body : (w m t b i j : ℕ) → w ≡ m → w ≡ t - b + i → b ≤ t → m + (b + j) - t ≡ i + j
-  count_body w m t b i j p q r = omega arith
-  settled_is : (f : Front) (p : Opened) (m : ℕ) → Settled f ≡ Body p m → ⊥
-  settled_is f p m x = cc
-  not_short : (d : Expected) (bytes : List ℕ) (p : Opened) (m : ℕ) → glance_at d bytes ≡ Body p m → header_size d bytes ≤ length bytes
-  not_short d bytes p m x = elim (cases_lt (length bytes) (header_size d bytes)) [
+    count_body : (w m t b i j : ℕ) → w ≡ m → w ≡ t - b + i → b ≤ t → m + (b + j) - t ≡ i + j
+    count_body w m t b i j p q r = omega arith
+
+    settled_is : (f : Front) (p : Opened) (m : ℕ) → Settled f ≡ Body p m → ⊥
+    settled_is f p m x = cc
+
+    not_short : (d : Expected) (bytes : List ℕ) (p : Opened) (m : ℕ) → glance_at d bytes ≡ Body p m → header_size d bytes ≤ length bytes
+    not_short d bytes p m x = elim (cases_lt (length bytes) (header_size d bytes)) [
       | inl lt ↦ absurd (settled_is Unfinished p m (sym (glance_short d bytes lt) ∙ x))
       | inr ge ↦ ge
     ]
@@ -150,8 +152,8 @@ finds e words body piece now after front n k kept c goes =
     let s = splits e words body piece now n kept c in
     let same : glance_at e now ≡ glance_at e all = ap (glance_at e) s.front ∙ glance_of_front e all in
     finds_by e (words ++ body) all now body (drop n piece) after front n k (glance_at e all) refl s
-      (omega (arith, length-append words body, ap length c.bytes, length-append words (take n piece), length-take n piece, c.within)) (omega (arith, length-append words body)) (small_by e words body piece now n kept c)
-      (subst (λ (g : Glance). Continues g body (drop n piece) front k after) same goes)
+    (omega (arith, length-append words body, ap length c.bytes, length-append words (take n piece), length-take n piece, c.within)) (omega (arith, length-append words body)) (small_by e words body piece now n kept c)
+    (subst (λ (g : Glance). Continues g body (drop n piece) front k after) same goes)
 
 -- ---- what a reader keeps and answers
 

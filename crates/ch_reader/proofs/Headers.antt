@@ -136,20 +136,20 @@ completes e words piece rest first now n m low f fn r g gm =
     let len_now : length now ≡ length first + m = ap length g ∙ omega (arith, length-append first (take m rest), length-take m rest) in
     let split : all ≡ first ++ rest = ap (λ (xs : List ℕ). words ++ xs) (sym (take-append-drop n piece)) ∙ sym (append_assoc words (take n piece) (drop n piece)) ∙ (ap (λ (xs : List ℕ). xs ++ drop n piece) (sym f) ∙ ap (λ (xs : List ℕ). first ++ xs) (sym r)) in
     let size : header_size e all ≡ header_size e first = elim (cases_lt (length all) 4) [
-        | inl lt ↦ ap (header_size e) (whole first rest all split (omega arith))
-        | inr le ↦ ap (header_size e) split ∙ size_front e first rest (omega arith)
-      ] in
+      | inl lt ↦ ap (header_size e) (whole first rest all split (omega arith))
+      | inr le ↦ ap (header_size e) split ∙ size_front e first rest (omega arith)
+    ] in
     let bounds = size_bounds e first in
     let first_low : length first ≤ header_size e first = elim (cases_lt (length words) 4) [
-        | inl lt ↦ omega arith
-        | inr le ↦ omega (arith, ap (header_size e) f ∙ size_front e words (take n piece) le)
-      ] in
+      | inl lt ↦ omega arith
+      | inr le ↦ omega (arith, ap (header_size e) f ∙ size_front e words (take n piece) le)
+    ] in
     record {
       within = omega arith;
       bytes = g ∙ ap (λ (xs : List ℕ). xs ++ take m rest) f ∙ append_assoc words (take n piece) (take m rest) ∙ ap (λ (xs : List ℕ). words ++ xs) (ap (λ (xs : List ℕ). take n piece ++ take m xs) r ∙ sym (take-add n m piece));
       front = front_is now (drop m rest) all (header_size e all) (split ∙ (ap (λ (xs : List ℕ). first ++ xs) (sym (take-append-drop m rest)) ∙ sym (append_assoc first (take m rest) (drop m rest)) ∙ ap (λ (xs : List ℕ). xs ++ drop m rest) (sym g))) (omega arith);
     }
   where
-  whole : (xs ys all : List ℕ) → all ≡ xs ++ ys → length all ≤ length xs → all ≡ xs
-  whole xs [] all e l = e ∙ append-nil xs
-  whole xs (y ∷ ys) all e l = absurd (omega (arith, ap length e, length-append xs (y ∷ ys)))
+    whole : (xs ys all : List ℕ) → all ≡ xs ++ ys → length all ≤ length xs → all ≡ xs
+    whole xs [] all e l = e ∙ append-nil xs
+    whole xs (y ∷ ys) all e l = absurd (omega (arith, ap length e, length-append xs (y ∷ ys)))

@@ -6,3 +6,4 @@ pub mod Complete
 pub mod Sound
 pub mod Streams
 pub mod Runs
+pub mod Decoding

@@ -80,8 +80,8 @@ unfinished_by size len rest (Body o count) l short h =
       | inr le ↦ absurd (body_ends o (take count rest) (sym (ap (λ (r : Front × ℕ). r.0) (body_whole o count rest le)) ∙ h))
     ]
   where
-  body_sum : (s n k : ℕ) → k ≡ n - s → min s n + k ≡ n
-  body_sum s n k e = omega arith
+    body_sum : (s n k : ℕ) → k ≡ n - s → min s n + k ≡ n
+    body_sum s n k e = omega arith
 
 pub unfinished_is_all : (e : Expected) (bytes : List ℕ) → (reading e bytes).0 ≡ Unfinished → (reading e bytes).1 ≡ length bytes
 unfinished_is_all e bytes h =

@@ -73,9 +73,9 @@ whole_is_past e since piece item fits waits is =
     elim (cases_lt (length since) n) [
       | inl lt ↦ lt
       | inr le ↦
-        let front : take n since ≡ item_spelling item = sym (take-append-le n since piece le) ∙ a.spelled in
-        let split : since ≡ item_spelling item ++ drop n since = sym (take-append-drop n since) ∙ ap (λ (xs : List ℕ). xs ++ drop n since) front in
-        absurd (waits_not_whole item (sym waits ∙ ap (λ (xs : List ℕ). (reading e xs).0) split ∙ ap (λ (p : Front × ℕ). p.0) (reads_item e item (drop n since) a.stands)))
+          let front : take n since ≡ item_spelling item = sym (take-append-le n since piece le) ∙ a.spelled in
+          let split : since ≡ item_spelling item ++ drop n since = sym (take-append-drop n since) ∙ ap (λ (xs : List ℕ). xs ++ drop n since) front in
+          absurd (waits_not_whole item (sym waits ∙ ap (λ (xs : List ℕ). (reading e xs).0) split ∙ ap (λ (p : Front × ℕ). p.0) (reads_item e item (drop n since) a.stands)))
     ]
 
 pub refused_is_past : (e : Expected) (since piece : List ℕ) (error : ReaderError) → IsBytes (since ++ piece) → (reading e since).0 ≡ Unfinished → (reading e (since ++ piece)).0 ≡ Refused error → length since < (reading e (since ++ piece)).1
@@ -85,8 +85,8 @@ refused_is_past e since piece error fits waits is =
     elim (cases_lt (length since) n) [
       | inl lt ↦ lt
       | inr le ↦
-        let last : IsRefusal e error (take n since) = subst (IsRefusal e error) (take-append-le n since piece le) a in
-        absurd (waits_not_refused error (sym waits ∙ ap (λ (xs : List ℕ). (reading e xs).0) (sym (take-append-drop n since)) ∙ ap (λ (p : Front × ℕ). p.0) (reads_refusal e error (take n since) (drop n since) last)))
+          let last : IsRefusal e error (take n since) = subst (IsRefusal e error) (take-append-le n since piece le) a in
+          absurd (waits_not_refused error (sym waits ∙ ap (λ (xs : List ℕ). (reading e xs).0) (sym (take-append-drop n since)) ∙ ap (λ (p : Front × ℕ). p.0) (reads_refusal e error (take n since) (drop n since) last)))
     ]
 
 -- what is taken of a piece, behind the bytes since
@@ -120,29 +120,33 @@ stream_more e bytes since more items item s stands spelled = record {
 feed_by : (role : Role) (bytes : List ℕ) (items : List Item) (e : Expected) (since piece : List ℕ) (front : Front) (n : ℕ) → IsBytes (since ++ piece) → e ≡ expected_after (first_expected role) items → IsStream role bytes items since
     → (reading e (since ++ piece)).0 ≡ front → n ≡ (reading e (since ++ piece)).1 - length since → Accounts role (bytes ++ take n piece) items (state_of e (since ++ piece) front)
 feed_by role bytes items e since piece Unfinished n fits is s front count =
-    let all : n ≡ length piece = omega (arith, unfinished_is_all e (since ++ piece) front, length-append since piece) in
-    (is, record {
-      whole = ap (λ (xs : List ℕ). xs ++ take n piece) s.whole ∙ append_assoc (spellings items) since (take n piece) ∙ ap (λ (xs : List ℕ). spellings items ++ (since ++ xs)) (take_all n piece (omega arith));
-      each = s.each;
-      unfinished = subst (λ (k : Expected). IsUnfinished k (since ++ piece)) is (subst (λ (f : Front). SaysFront e (since ++ piece) f (reading e (since ++ piece)).1) front (says e (since ++ piece) fits));
-    })
+    let all : n ≡ length piece = omega (arith, unfinished_is_all e (since ++ piece) front, length-append since piece) in (
+      is,
+      record {
+        whole = ap (λ (xs : List ℕ). xs ++ take n piece) s.whole ∙ append_assoc (spellings items) since (take n piece) ∙ ap (λ (xs : List ℕ). spellings items ++ (since ++ xs)) (take_all n piece (omega arith));
+        each = s.each;
+        unfinished = subst (λ (k : Expected). IsUnfinished k (since ++ piece)) is (subst (λ (f : Front). SaysFront e (since ++ piece) f (reading e (since ++ piece)).1) front (says e (since ++ piece) fits));
+      },
+    )
 feed_by role bytes items e since piece (Whole item) n fits is s front count =
     let a = whole_at e (since ++ piece) item fits front in
     let waits : (reading e since).0 ≡ Unfinished = ap (λ (p : Front × ℕ). p.0) (reads_unfinished e since (subst (λ (k : Expected). IsUnfinished k since) (sym is) s.unfinished)) in
     let past = whole_is_past e since piece item fits waits front in
     stream_more (first_expected role) bytes since (take n piece) items item s (subst (λ (k : Expected). MayStand k item) is a.stands)
-      (ap (λ (k : ℕ). since ++ take k piece) count ∙ taken_front since piece (reading e (since ++ piece)).1 (omega arith) ∙ a.spelled)
+    (ap (λ (k : ℕ). since ++ take k piece) count ∙ taken_front since piece (reading e (since ++ piece)).1 (omega arith) ∙ a.spelled)
 feed_by role bytes items e since piece (Refused error) n fits is s front count =
     let waits : (reading e since).0 ≡ Unfinished = ap (λ (p : Front × ℕ). p.0) (reads_unfinished e since (subst (λ (k : Expected). IsUnfinished k since) (sym is) s.unfinished)) in
     let past = refused_is_past e since piece error fits waits front in
-    let last : since ++ take n piece ≡ take (reading e (since ++ piece)).1 (since ++ piece) = ap (λ (k : ℕ). since ++ take k piece) count ∙ taken_front since piece (reading e (since ++ piece)).1 (omega arith) in
-    (record {
-      items = items;
-      last = since ++ take n piece;
-      whole = ap (λ (xs : List ℕ). xs ++ take n piece) s.whole ∙ append_assoc (spellings items) since (take n piece);
-      each = s.each;
-      refused = subst (λ (k : Expected). IsRefusal k error (since ++ take n piece)) is (subst (IsRefusal e error) (sym last) (refused_at e (since ++ piece) error fits front));
-    }, refl)
+    let last : since ++ take n piece ≡ take (reading e (since ++ piece)).1 (since ++ piece) = ap (λ (k : ℕ). since ++ take k piece) count ∙ taken_front since piece (reading e (since ++ piece)).1 (omega arith) in (
+      record {
+        items = items;
+        last = since ++ take n piece;
+        whole = ap (λ (xs : List ℕ). xs ++ take n piece) s.whole ∙ append_assoc (spellings items) since (take n piece);
+        each = s.each;
+        refused = subst (λ (k : Expected). IsRefusal k error (since ++ take n piece)) is (subst (IsRefusal e error) (sym last) (refused_at e (since ++ piece) error fits front));
+      },
+      refl,
+    )
 
 since_bytes : (role : Role) (bytes : List ℕ) (items : List Item) (since : List ℕ) → IsBytes bytes → IsStream role bytes items since → IsBytes since
 since_bytes role bytes items since fits s = bytes_tail (spellings items) since (subst IsBytes s.whole fits)
@@ -170,7 +174,7 @@ run_accounts role p (Feed piece ∷ calls) fits each a =
     run_accounts role (after p (Feed piece)) calls (bytes_append p.bytes (take (fed p.state piece).0 piece) fits (bytes_take (fed p.state piece).0 piece each.0)) each.1 (accounts_feed role p.bytes p.items p.state piece fits each.0 a)
 run_accounts role p (Take ∷ calls) fits each a = run_accounts role (after p Take) calls fits each.1 (accounts_take role p.bytes p.items p.state a)
 
-no_bytes : IsBytes []
+pub no_bytes : IsBytes []
 no_bytes i = omega arith
 
 -- any feeds and takes keep the account
@@ -198,7 +202,7 @@ state_little e bytes Unfinished is = is
 state_little e bytes (Whole item) is = subst IsHeld is (is_held e bytes)
 state_little e bytes (Refused error) is = tt
 
-nothing_waits : (e : Expected) → (reading e []).0 ≡ Unfinished
+pub nothing_waits : (e : Expected) → (reading e []).0 ≡ Unfinished
 nothing_waits e = ap (λ (p : Front × ℕ). p.0) (reads_unfinished e [] (nothing_unfinished e))
 
 little_feed : (state : State) (piece : List ℕ) → IsLittle state → IsLittle (fed state piece).1
@@ -224,11 +228,3 @@ little_is_held (Refuses error) h = omega arith
 -- never more than two words and a payload
 pub holds_little : (role : Role) (calls : List Call) → held (run (beginning role) calls).state ≤ 65544
 holds_little role calls = little_is_held (run (beginning role) calls).state (little_run (beginning role) calls (nothing_waits (first_expected role)))
-
--- ---- going on by pieces
-
--- a reader that waits for more
-abbrev pub IsReady : State → Type 0
-IsReady (Waits e since) = ((reading e since).0 ≡ Unfinished) × IsBytes since
-IsReady (Holds item) = ⊥
-IsReady (Refuses error) = ⊥

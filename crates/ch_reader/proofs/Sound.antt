@@ -74,7 +74,7 @@ split_two : (bytes : List ℕ) (n : ℕ) → IsBytes bytes → 8 ≤ length byte
 split_two bytes n fits le is =
     split_one bytes n fits (omega arith) is
     ∙ ap (λ (xs : List ℕ). word n ++ xs) (sym (front_word (drop 4 bytes) (bytes_of_drop 4 bytes fits) (omega (arith, length-drop 4 bytes)))
-        ∙ ap (λ (xs : List ℕ). word (second_word bytes) ++ xs) (drop-drop 4 4 bytes))
+    ∙ ap (λ (xs : List ℕ). word (second_word bytes) ++ xs) (drop-drop 4 4 bytes))
 
 -- bytes begin with counted ones
 split_counted : (bytes text : List ℕ) (n : ℕ) → IsBytes bytes → 8 ≤ length bytes → first_word bytes ≡ n → text ≡ take (second_word bytes) (drop 8 bytes) → second_word bytes ≤ length (drop 8 bytes)
@@ -83,7 +83,7 @@ split_counted bytes text n fits le is e enough =
     let count : ℕ = second_word bytes in
     let len : count ≡ length text = omega (arith, ap length e, length-take count (drop 8 bytes)) in
     let tail : drop 8 bytes ≡ text ++ drop (8 + count) bytes =
-        sym (take-append-drop count (drop 8 bytes)) ∙ ap (λ (xs : List ℕ). xs ++ drop count (drop 8 bytes)) (sym e) ∙ ap (λ (xs : List ℕ). text ++ xs) (drop-drop count 8 bytes) in
+    sym (take-append-drop count (drop 8 bytes)) ∙ ap (λ (xs : List ℕ). xs ++ drop count (drop 8 bytes)) (sym e) ∙ ap (λ (xs : List ℕ). text ++ xs) (drop-drop count 8 bytes) in
     split_two bytes n fits le is
     ∙ ap (λ (k : ℕ). word n ++ (word k ++ drop 8 bytes)) len
     ∙ ap (λ (xs : List ℕ). word n ++ (word (length text) ++ xs)) tail
@@ -125,8 +125,8 @@ unknown_by : (n : ℕ) (t : Bool) → (n == 2) ≡ t → (n == 0) ≡ false → 
 unknown_by n true t a b c d e lt = inl (eqb-true n 2 t)
 unknown_by n false t a b c d e lt = inr (six, lt)
   where
-  six : 6 ≤ n
-  six = grind (arith, nat_tests)
+    six : 6 ≤ n
+    six = grind (arith, nat_tests)
 
 head_by : (n : ℕ) (t u v w x y : Bool) → (n == 0) ≡ t → (n == 1) ≡ u → (n == 3) ≡ v → (n == 4) ≡ w → (n == 5) ≡ x → nat_lt n FIRST_ID ≡ y
     → HeadSays n (cond t heads.Created (cond u heads.Closed (cond v heads.EndClosed (cond w heads.Probe (cond x heads.ProbeAck (cond y heads.Unknown (heads.Data n)))))))
@@ -193,10 +193,11 @@ answer_front_says bytes None fits le is = settled_says expected.Answer bytes 4 (
 request_says : (bytes : List ℕ) (count : ℕ) (r : Result AddressValue AddressError) → IsBytes bytes → 8 ≤ length bytes → second_word bytes ≡ count → count ≤ MOST_ADDRESS_BYTES → count ≤ length (drop 8 bytes) → read_address (take count (drop 8 bytes)) ≡ r
     → SaysFront expected.Request bytes (request_front (first_word bytes) r) (8 + count)
 request_says bytes count (Ok a) fits le is most enough e =
-    let f = read_found (take count (drop 8 bytes)) a e in
-    (record { target = first_below bytes fits; address = f.0 },
-     subst (λ (k : ℕ). bytes ≡ counted (first_word bytes) (address_text a) ++ drop (8 + k) bytes) is
-       (split_counted bytes (address_text a) (first_word bytes) fits le refl (sym f.1 ∙ ap (λ (k : ℕ). take k (drop 8 bytes)) (sym is)) (omega arith)))
+    let f = read_found (take count (drop 8 bytes)) a e in (
+      record { target = first_below bytes fits; address = f.0 },
+      subst (λ (k : ℕ). bytes ≡ counted (first_word bytes) (address_text a) ++ drop (8 + k) bytes) is
+          (split_counted bytes (address_text a) (first_word bytes) fits le refl (sym f.1 ∙ ap (λ (k : ℕ). take k (drop 8 bytes)) (sym is)) (omega arith)),
+    )
 request_says bytes count (Err x) fits le is most enough e =
     let second : second_word (take (8 + count) bytes) ≡ count = subst (λ (k : ℕ). second_word (take k bytes) ≡ second_word bytes) (let s : 4 + (4 + count) ≡ 8 + count = omega arith in s) (second_of_take (4 + count) bytes (omega arith)) ∙ is in
     let len : length (take (8 + count) bytes) ≡ 8 + count = omega (arith, length-take (8 + count) bytes, length-drop 8 bytes) in
@@ -208,7 +209,7 @@ request_by bytes true fits le e = settled_says expected.Request bytes 8 (Refused
 request_by bytes false fits le e =
     let most : second_word bytes ≤ MOST_ADDRESS_BYTES = ltb-false MOST_ADDRESS_BYTES (second_word bytes) e in
     body_says expected.Request bytes (opened.Request (first_word bytes)) (second_word bytes) le (λ lt. inr (le, most, lt))
-      (λ enough. request_says bytes (second_word bytes) (read_address (take (second_word bytes) (drop 8 bytes))) fits le refl most enough refl)
+    (λ enough. request_says bytes (second_word bytes) (read_address (take (second_word bytes) (drop 8 bytes))) fits le refl most enough refl)
 
 data_by : (bytes : List ℕ) (id : ℕ) (t : Bool) → IsBytes bytes → 8 ≤ length bytes → head_numbered (first_word bytes) ≡ heads.Data id → first_word bytes ≡ id → FIRST_ID ≤ first_word bytes → nat_lt MOST_PAYLOAD_BYTES (second_word bytes) ≡ t
     → Says expected.Frame bytes (read_by 8 (length bytes) (drop 8 bytes) (cond t (Settled (Refused PayloadLong)) (Body (opened.Data id) (second_word bytes))))
@@ -217,9 +218,11 @@ data_by bytes id true fits le is same low e =
 data_by bytes id false fits le is same low e =
     let most : second_word bytes ≤ MOST_PAYLOAD_BYTES = ltb-false MOST_PAYLOAD_BYTES (second_word bytes) e in
     body_says expected.Frame bytes (opened.Data id) (second_word bytes) le
-      (λ lt. inr (omega arith, subst (λ (h : Head). IsPartOfFrame h bytes) (sym is) (inr (le, most, lt))))
-      (λ enough. (((omega arith, omega (arith, first_below bytes fits)), omega (arith, length-take (second_word bytes) (drop 8 bytes))),
-          split_counted bytes (take (second_word bytes) (drop 8 bytes)) id fits le same refl enough))
+    (λ lt. inr (omega arith, subst (λ (h : Head). IsPartOfFrame h bytes) (sym is) (inr (le, most, lt))))
+    (λ enough. (
+      ((omega arith, omega (arith, first_below bytes fits)), omega (arith, length-take (second_word bytes) (drop 8 bytes))),
+      split_counted bytes (take (second_word bytes) (drop 8 bytes)) id fits le same refl enough,
+    ))
 
 two_word_frame : (bytes : List ℕ) (n : ℕ) → IsBytes bytes → 8 ≤ length bytes → first_word bytes ≡ n → bytes ≡ (word n ++ word (second_word bytes)) ++ drop 8 bytes
 two_word_frame bytes n fits le is = split_two bytes n fits le is ∙ sym (append_assoc (word n) (word (second_word bytes)) (drop 8 bytes))

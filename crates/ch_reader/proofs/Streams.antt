@@ -62,7 +62,7 @@ agree e bytes (i ∷ is) [] tail left f g p q =
 agree e bytes (i ∷ is) (o ∷ os) tail left f g p q =
     let same : i ≡ o = whole_is i o (sym (first_of e bytes tail i is f p) ∙ first_of e bytes left o os g q) in
     let rests : spellings is ++ tail ≡ spellings os ++ left = append_cancel_left (item_spelling o) (spellings is ++ tail) (spellings os ++ left)
-        (ap (λ (x : Item). item_spelling x ++ (spellings is ++ tail)) (sym same) ∙ sym (p.whole ∙ append_assoc (item_spelling i) (spellings is) tail) ∙ (q.whole ∙ append_assoc (item_spelling o) (spellings os) left)) in
+    (ap (λ (x : Item). item_spelling x ++ (spellings is ++ tail)) (sym same) ∙ sym (p.whole ∙ append_assoc (item_spelling i) (spellings is) tail) ∙ (q.whole ∙ append_assoc (item_spelling o) (spellings os) left)) in
     let second = subst (λ (xs : List ℕ). Reads expected.Frame xs os left g) (sym rests) (rest_of e bytes left o os g q) in
     let more = agree expected.Frame (spellings is ++ tail) is os tail left f g (rest_of e bytes tail i is f p) second in
     (ap (λ (x : Item). x ∷ is) same ∙ ap (λ (xs : List Item). o ∷ xs) more.0, more.1, more.2)
@@ -99,7 +99,7 @@ stream_is_one e bytes items others rest left p q =
 pub refusal_is_one : (e : Expected) (bytes : List ℕ) (error other : ReaderError) → IsMalformedFrom e bytes error → IsMalformedFrom e bytes other → error ≡ other
 refusal_is_one e bytes error other p q =
     refused_is error other (agree e bytes p.items q.items (p.last ++ []) (q.last ++ []) (Refused error) (Refused other)
-      (malformed_reads e bytes bytes [] error p (sym (append-nil bytes))) (malformed_reads e bytes bytes [] other q (sym (append-nil bytes)))).2
+    (malformed_reads e bytes bytes [] error p (sym (append-nil bytes))) (malformed_reads e bytes bytes [] other q (sym (append-nil bytes)))).2
 
 -- a text is never both
 pub never_both : (e : Expected) (bytes : List ℕ) (items : List Item) (rest : List ℕ) (error : ReaderError) → IsStreamFrom e bytes items rest → IsMalformedFrom e bytes error → ⊥

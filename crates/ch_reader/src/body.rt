@@ -16,7 +16,12 @@ use std::mem;
 
 /// What stands at the front once these bytes follow the words and the body so far, and how many of
 /// them are of the item. Without memory the body stays as it was.
-pub(crate) fn continued(expected: Expected, words: &[u8], body: &mut Vec<u8>, rest: &[u8]) -> Result<(Front, usize), OutOfMemory>
+pub(crate) fn continued(
+    expected: Expected,
+    words: &[u8],
+    body: &mut Vec<u8>,
+    rest: &[u8],
+) -> Result<(Front, usize), OutOfMemory>
     requires { HasRoom (glance_at expected words.now) body.old.items }
     ensures ok { IfOk result (λ r. Continues (glance_at expected words.now) body.old.items rest.now r.0 r.1 body.new.items) }
     ensures err { OnErr result (body.new.items ≡ body.old.items) }
@@ -28,7 +33,12 @@ pub(crate) fn continued(expected: Expected, words: &[u8], body: &mut Vec<u8>, re
 }
 
 /// The same of a body of so many bytes. Its memory is asked for once, with the first of them.
-fn filled(opened: Opened, count: usize, body: &mut Vec<u8>, rest: &[u8]) -> Result<(Front, usize), OutOfMemory>
+fn filled(
+    opened: Opened,
+    count: usize,
+    body: &mut Vec<u8>,
+    rest: &[u8],
+) -> Result<(Front, usize), OutOfMemory>
     requires { length body.old.items ≤ count }
     ensures ok { IfOk result (λ r. Continues (Glance.Body opened count) body.old.items rest.now r.0 r.1 body.new.items) }
     ensures err { OnErr result (body.new.items ≡ body.old.items) }

@@ -10,8 +10,10 @@ mod glance;
 mod item;
 mod law;
 mod reader;
+mod stream;
 mod words;
 
 pub use item::{Item, ReaderError, Role};
 pub use law::{runs_are_streams, streams_are_one};
 pub use reader::Reader;
+pub use stream::{Decoded, decode};

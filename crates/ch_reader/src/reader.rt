@@ -2,7 +2,7 @@
 //!
 //! An item's words and its body stand below, in `words` and `body`; hosts stand above.
 
-ghost use Rattle.std.specs.Prelude.{◌≡◌, ◌≤◌, ◌++◌, IfOk, OnErr, IsOk, Ok};
+ghost use Rattle.std.specs.Prelude.{◌≡◌, ◌≤◌, length, IfOk, OnErr, IsOk};
 ghost use Rattle.ch_reader.specs.States.{State, start, fed, taken, held};
 
 use crate::body::continued;
@@ -62,6 +62,7 @@ impl Reader {
     /// how many; none while an item or a refusal stands. Without memory the reader is unchanged.
     pub fn feed(&mut self, piece: &[u8]) -> Result<usize, OutOfMemory>
         ensures ok { IfOk result (λ n. (n, self.new) ≡ fed self.old piece.now) }
+        ensures within { IfOk result (λ n. n ≤ length piece.now) }
         ensures err { OnErr result (self.new ≡ self.old) }
         ensures bound { held self.new ≤ MOST_HELD_BYTES }
     {
@@ -70,7 +71,12 @@ impl Reader {
             _ => return Ok(0),
         }
         let (words, count) = self.words.completed(self.expected, piece);
-        let (front, more) = continued(self.expected, words.as_slice(), &mut self.body, &piece[count..])?;
+        let (front, more) = continued(
+            self.expected,
+            words.as_slice(),
+            &mut self.body,
+            &piece[count..],
+        )?;
         self.words = words;
         self.front = front;
         Ok(count + more)

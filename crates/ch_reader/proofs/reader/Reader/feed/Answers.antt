@@ -40,4 +40,11 @@ returns-clause-bound c =
     let kept = unfinished_parts i.expected i.words i.body.items i.front c.in-Unfinished.is c.self.invariant in
     let goes = goes_on i.expected c.as_slice.result.now c.completed-words.result.0 i.body.items _ c.args.piece.now c.continued.new.body.items c.in_ok-front.front c.completed-words.result.1 c.in_ok-front.more c.as_slice.ensures (take_rest c.args.piece.now c.completed-words.result.1) c.in_ok-front.ensures.ok in
     keeps_little i.expected c.completed-words.result.0 c.continued.new.body.items c.in_ok-front.front
-      (keeps i.expected i.words i.body.items c.args.piece.now c.completed-words.result.0 c.continued.new.body.items c.in_ok-front.front c.completed-words.result.1 c.in_ok-front.more kept c.completed-words.ensures goes)
+    (keeps i.expected i.words i.body.items c.args.piece.now c.completed-words.result.0 c.continued.new.body.items c.in_ok-front.front c.completed-words.result.1 c.in_ok-front.more kept c.completed-words.ensures goes)
+
+pub returns-clause-within : goal.returns-clause-within
+returns-clause-within c =
+    let i = c.self.inside in
+    let kept = unfinished_parts i.expected i.words i.body.items i.front c.in-Unfinished.is c.self.invariant in
+    let goes = goes_on i.expected c.as_slice.result.now c.completed-words.result.0 i.body.items _ c.args.piece.now c.continued.new.body.items c.in_ok-front.front c.completed-words.result.1 c.in_ok-front.more c.as_slice.ensures (take_rest c.args.piece.now c.completed-words.result.1) c.in_ok-front.ensures.ok in
+    takes_within i.expected i.words i.body.items c.args.piece.now c.completed-words.result.0 c.continued.new.body.items c.in_ok-front.front c.completed-words.result.1 c.in_ok-front.more kept c.completed-words.ensures goes
