@@ -1,5 +1,5 @@
 -- How a body goes on and ends.
-use Rattle.std.proofs.Common.{◌≡◌, ℕ, ◌+◌, ◌-◌, ◌<◌, ◌≤◌, Bool, true, false, cond, ltb, nat_lt, List, ◌++◌, length, take, Result, Ok, Err, refl, sym, ap, ◌∙◌, arith}
+use Rattle.std.proofs.Common.{◌≡◌, ℕ, ◌+◌, ◌-◌, ◌≤◌, List, ◌++◌, length, take, Result, Ok, Err, refl, sym, ap, ◌∙◌, arith}
 use Rattle.std.proofs.Math.Seq.{take-append-add}
 use Rattle.std.proofs.lemmas.Bool.{le-ltb}
 use Rattle.std.proofs.lemmas.List.{length-append}
@@ -7,10 +7,10 @@ use Rattle.ch_base.specs.AddressValues.{AddressValue}
 use Rattle.ch_base.specs.Addresses.{read_address}
 use Rattle.ch_base.specs.declared.address.AddressError.{AddressError}
 use Rattle.ch_reader.specs.declared.item.Front.{Front}
-use Rattle.ch_reader.specs.declared.item.Front.TheVariants.{Unfinished, Whole, Refused}
+use Rattle.ch_reader.specs.declared.item.Front.TheVariants.{Unfinished}
 use Rattle.ch_reader.specs.declared.glance.Opened.{Opened}
 use Rattle.ch_reader.specs.declared.glance.Opened.TheVariants as opened
-use Rattle.ch_reader.specs.declared.glance.Glance.TheVariants.{Settled, Body}
+use Rattle.ch_reader.specs.declared.glance.Glance.TheVariants.{Body}
 use Rattle.ch_reader.specs.Reading.{request_front, body_front, rest_reading}
 use Rattle.ch_reader.specs.Keeping.{Continues}
 

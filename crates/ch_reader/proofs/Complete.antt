@@ -1,15 +1,15 @@
 -- Reading finds what stands at the front: a spelled item, an unfinished rest, a refusal.
-use Rattle.std.proofs.Common.{◌≡◌, ℕ, ◌+◌, ◌-◌, ◌<◌, ◌≤◌, ◌^◌, min, Bool, true, false, cond, nat_lt, ◌⊎◌, inl, inr, Option, Some, None, Result, Ok, Err, List, [], ◌∷◌, ◌++◌, length, take, drop, refl, sym, ap, subst, ◌∙◌, append_assoc, arith}
+use Rattle.std.proofs.Common.{◌≡◌, ℕ, ◌+◌, ◌<◌, ◌≤◌, ◌^◌, min, Bool, cond, inl, inr, Some, None, Result, Ok, Err, List, ◌++◌, length, take, drop, refl, sym, ap, ◌∙◌, append_assoc, arith}
 use Rattle.std.specs.Prelude.{IsErr}
-use Rattle.std.proofs.lemmas.Bool.{cases_lt, le-ltb, lt-ltb}
+use Rattle.std.proofs.lemmas.Bool.{le-ltb, lt-ltb}
 use Rattle.std.proofs.lemmas.Bool.Decides.{nat_tests}
-use Rattle.std.proofs.lemmas.List.{length-append, length-take, length-drop, take_at, drop-drop, drop-append-le}
+use Rattle.std.proofs.lemmas.List.{length-append, length-drop, take_at, drop-append-le}
 use Rattle.ch_base.specs.AddressValues.{AddressValue}
-use Rattle.ch_base.specs.Addresses.{IsAddress, address_text, read_address}
+use Rattle.ch_base.specs.Addresses.{address_text, read_address}
 use Rattle.ch_base.specs.declared.address.AddressError.{AddressError}
 use Rattle.ch_base.proofs.Addresses.{read_again}
 use Rattle.ch_wire.specs.Words.{word, word_value, counted}
-use Rattle.ch_wire.specs.Spelling.{IsRequest, IsFrame, IsConnection, answer_number, answer_numbered, head_numbered, request_spelling, answer_spelling, frame_spelling}
+use Rattle.ch_wire.specs.Spelling.{IsRequest, IsFrame, answer_number, answer_numbered, head_numbered, request_spelling, answer_spelling, frame_spelling}
 use Rattle.ch_wire.specs.declared.TheConstants.{FIRST_ID, MOST_ADDRESS_BYTES, MOST_PAYLOAD_BYTES}
 use Rattle.ch_wire.specs.declared.answer.Answer.{Answer}
 use Rattle.ch_wire.specs.declared.answer.Answer.TheVariants.{Accepted, Invalid, Crossed, Mismatch}
@@ -28,16 +28,15 @@ use Rattle.ch_reader.specs.declared.item.ReaderError.{ReaderError}
 use Rattle.ch_reader.specs.declared.item.ReaderError.TheVariants.{UnknownControl, PayloadLong, AddressLong, BadAddress, BadAnswer}
 use Rattle.ch_reader.specs.declared.item.Front.{Front}
 use Rattle.ch_reader.specs.declared.item.Front.TheVariants.{Unfinished, Whole, Refused}
-use Rattle.ch_reader.specs.declared.glance.Glance.{Glance}
 use Rattle.ch_reader.specs.declared.glance.Glance.TheVariants.{Settled, Body}
 use Rattle.ch_reader.specs.declared.glance.Opened.{Opened}
 use Rattle.ch_reader.specs.declared.glance.Opened.TheVariants as opened
 use Rattle.ch_reader.specs.Items.{item_spelling, MayStand}
 use Rattle.ch_reader.specs.Streams.{first_word, second_word, IsPartOfCounted, IsPartOfFrame, IsUnfinished, IsUnknownControl, IsRefusal}
-use Rattle.ch_reader.specs.Reading.{frame_header_size, header_size, counted_body, answer_glance, frame_glance, words_glance, glance_at, request_front, body_front, rest_reading, reading}
+use Rattle.ch_reader.specs.Reading.{frame_header_size, header_size, counted_body, answer_glance, frame_glance, words_glance, request_front, body_front, rest_reading, reading}
 use Rattle.ch_reader.proofs.Bodies.{at, pair, body_whole}
 use Rattle.ch_reader.proofs.Headers.{first_word_front, second_word_front, frame_size, size_bounds, glance_short, glance_long}
-use Rattle.ch_reader.proofs.Readings.{read_by, reading_by, body_short, unfinished_is_all}
+use Rattle.ch_reader.proofs.Readings.{reading_by, body_short, unfinished_is_all}
 
 -- ---- what whole words and a whole body give
 

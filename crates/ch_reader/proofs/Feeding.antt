@@ -1,7 +1,7 @@
 -- A feed goes on as the whole of the bytes since the last item is read.
 use Rattle.std.proofs.Common.{◌≡◌, ℕ, ◌+◌, ◌-◌, ◌<◌, ◌≤◌, min, ◌⊎◌, inl, inr, List, [], ◌∷◌, ◌++◌, length, take, drop, refl, sym, ap, subst, ◌∙◌, append_assoc, arith}
 use Rattle.std.proofs.lemmas.Bool.{cases_lt}
-use Rattle.std.proofs.lemmas.List.{append-nil, length-append, length-take, length-drop, take-append-drop, take-append-le, take_all, take_at, drop_at, nil_from_length}
+use Rattle.std.proofs.lemmas.List.{append-nil, length-append, length-take, take-append-drop, take_all, take_at, drop_at, nil_from_length}
 use Rattle.ch_reader.specs.declared.item.Expected.{Expected}
 use Rattle.ch_reader.specs.declared.item.Front.{Front}
 use Rattle.ch_reader.specs.declared.item.Front.TheVariants.{Unfinished, Whole, Refused}
@@ -9,7 +9,7 @@ use Rattle.ch_reader.specs.declared.glance.Glance.{Glance}
 use Rattle.ch_reader.specs.declared.glance.Glance.TheVariants.{Settled, Body}
 use Rattle.ch_reader.specs.declared.glance.Opened.{Opened}
 use Rattle.ch_reader.specs.Reading.{header_size, glance_at, rest_reading, reading}
-use Rattle.ch_reader.specs.States.{State, Waits, Holds, Refuses, state_of, fed, held}
+use Rattle.ch_reader.specs.States.{State, Waits, state_of, fed, held}
 use Rattle.ch_reader.specs.Keeping.{Completes, HasRoom, Continues, IsUnfinishedSplit, Keeps}
 use Rattle.ch_reader.proofs.Bodies.{at, pair}
 use Rattle.ch_reader.proofs.Headers.{size_bounds, size_front, size_of_front, glance_short, glance_of_front}

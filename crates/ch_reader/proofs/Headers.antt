@@ -1,8 +1,8 @@
 -- The words at the front: what they tell depends on them alone.
-use Rattle.std.proofs.Common.{◌≡◌, ℕ, ◌+◌, ◌-◌, ◌<◌, ◌≤◌, min, Bool, true, false, cond, nat_lt, ◌⊎◌, inl, inr, List, [], ◌∷◌, ◌++◌, length, take, drop, refl, sym, ap, subst, ◌∙◌, append_assoc, arith}
+use Rattle.std.proofs.Common.{◌≡◌, ℕ, ◌+◌, ◌-◌, ◌<◌, ◌≤◌, min, Bool, true, false, cond, nat_lt, ◌⊎◌, inl, inr, List, [], ◌∷◌, ◌++◌, length, take, drop, refl, sym, ap, ◌∙◌, append_assoc, arith}
 use Rattle.std.proofs.Math.Seq.{take-add}
 use Rattle.std.proofs.lemmas.Bool.{cases_lt, le-ltb, lt-ltb}
-use Rattle.std.proofs.lemmas.List.{append-nil, length-append, length-take, length-drop, take-append-drop, take-append-le, drop-append-le, drop-drop, take_all, take_at, take_min}
+use Rattle.std.proofs.lemmas.List.{append-nil, length-append, length-take, length-drop, take-append-drop, take-append-le, drop-append-le, take_all, take_at, take_min}
 use Rattle.ch_wire.specs.Words.{word_value}
 use Rattle.ch_wire.specs.Spelling.{head_numbered, answer_numbered}
 use Rattle.ch_wire.specs.declared.TheConstants.{MOST_ADDRESS_BYTES}
@@ -13,7 +13,7 @@ use Rattle.ch_reader.specs.declared.item.Expected.TheVariants as expected
 use Rattle.ch_reader.specs.declared.item.ReaderError.TheVariants.{AddressLong}
 use Rattle.ch_reader.specs.declared.item.Front.TheVariants.{Unfinished}
 use Rattle.ch_reader.specs.declared.glance.Glance.{Glance}
-use Rattle.ch_reader.specs.declared.glance.Glance.TheVariants.{Settled, Body}
+use Rattle.ch_reader.specs.declared.glance.Glance.TheVariants.{Settled}
 use Rattle.ch_reader.specs.declared.glance.Opened.TheVariants as opened
 use Rattle.ch_reader.specs.Streams.{first_word, second_word}
 use Rattle.ch_reader.specs.Reading.{frame_header_size, header_size, counted_body, answer_glance, frame_glance, words_glance, glance_at}

@@ -1,12 +1,12 @@
 -- What reading the front of bytes gives, case by case of what the words tell.
-use Rattle.std.proofs.Common.{◌≡◌, ℕ, ◌+◌, ◌-◌, ◌<◌, ◌≤◌, min, Bool, true, false, cond, nat_lt, ◌⊎◌, inl, inr, Option, Some, None, Result, Ok, Err, List, [], ◌∷◌, ◌++◌, length, take, drop, refl, sym, ap, subst, ◌∙◌, append_assoc, arith}
-use Rattle.std.proofs.lemmas.Bool.{cases_lt, le-ltb, lt-ltb, ltb-false}
+use Rattle.std.proofs.Common.{◌≡◌, ℕ, ◌+◌, ◌-◌, ◌<◌, ◌≤◌, min, Bool, true, false, cond, nat_lt, inl, inr, Option, Some, None, Result, Ok, Err, List, length, take, drop, refl, sym, ap, subst, ◌∙◌, arith}
+use Rattle.std.proofs.lemmas.Bool.{cases_lt, lt-ltb, ltb-false}
 use Rattle.std.proofs.lemmas.List.{length-append, length-take, length-drop}
 use Rattle.ch_base.specs.AddressValues.{AddressValue}
-use Rattle.ch_base.specs.Addresses.{IsAddress, address_text, read_address}
+use Rattle.ch_base.specs.Addresses.{address_text, read_address}
 use Rattle.ch_base.specs.declared.address.AddressError.{AddressError}
 use Rattle.ch_base.proofs.Addresses.{read_found}
-use Rattle.ch_wire.specs.Words.{word, word_value}
+use Rattle.ch_wire.specs.Words.{word}
 use Rattle.ch_wire.specs.Spelling.{head_numbered, answer_numbered}
 use Rattle.ch_wire.specs.declared.TheConstants.{MOST_ADDRESS_BYTES, MOST_PAYLOAD_BYTES}
 use Rattle.ch_wire.specs.declared.answer.Answer.{Answer}
@@ -24,8 +24,8 @@ use Rattle.ch_reader.specs.declared.glance.Opened.{Opened}
 use Rattle.ch_reader.specs.declared.glance.Opened.TheVariants as opened
 use Rattle.ch_reader.specs.Items.{item_spelling}
 use Rattle.ch_reader.specs.Streams.{first_word, second_word}
-use Rattle.ch_reader.specs.Reading.{header_size, counted_body, answer_glance, frame_glance, words_glance, glance_at, request_front, body_front, rest_reading, reading}
-use Rattle.ch_reader.proofs.Bodies.{at, pair, body_ends, body_whole}
+use Rattle.ch_reader.specs.Reading.{header_size, answer_glance, frame_glance, words_glance, glance_at, request_front, body_front, rest_reading, reading}
+use Rattle.ch_reader.proofs.Bodies.{at, body_ends, body_whole}
 use Rattle.ch_reader.proofs.Headers.{size_bounds, glance_short, glance_long}
 
 -- reading, with what the words tell apart

@@ -1,9 +1,9 @@
 -- Feeds and takes keep the account of the bytes taken.
-use Rattle.std.proofs.Common.{◌≡◌, ℕ, ◌+◌, ◌-◌, ◌<◌, ◌≤◌, ◌⊎◌, inl, inr, Option, Some, None, Result, Ok, Err, List, [], ◌∷◌, ◌++◌, length, take, drop, get_or, refl, sym, ap, subst, ◌∙◌, append_assoc, arith}
-use Rattle.std.proofs.Math.Seq.{take-append-add, take-add}
+use Rattle.std.proofs.Common.{◌≡◌, ℕ, ◌+◌, ◌-◌, ◌<◌, ◌≤◌, inl, inr, List, [], ◌∷◌, ◌++◌, length, take, drop, refl, sym, ap, subst, ◌∙◌, append_assoc, arith}
+use Rattle.std.proofs.Math.Seq.{take-append-add}
 use Rattle.std.specs.List.{AllByRecursion}
 use Rattle.std.proofs.lemmas.Bool.{cases_lt}
-use Rattle.std.proofs.lemmas.List.{append-nil, length-append, length-take, length-drop, take_all, take_at, take-append-le, take-append-drop, flat_map_more, get_or_append_left, get_or-append_right, get_or-append-add, get_or-take, get_or_past}
+use Rattle.std.proofs.lemmas.List.{append-nil, length-append, length-take, take_all, take_at, take-append-le, take-append-drop, flat_map_more, get_or_append_left, get_or-append_right, get_or-append-add, get_or-take, get_or_past}
 use Rattle.ch_reader.specs.declared.item.Expected.{Expected}
 use Rattle.ch_reader.specs.declared.item.Expected.TheVariants as expected
 use Rattle.ch_reader.specs.declared.item.Item.{Item}
@@ -12,12 +12,11 @@ use Rattle.ch_reader.specs.declared.item.Role.{Role}
 use Rattle.ch_reader.specs.declared.item.Front.{Front}
 use Rattle.ch_reader.specs.declared.item.Front.TheVariants.{Unfinished, Whole, Refused}
 use Rattle.ch_reader.specs.Items.{item_spelling, spellings, MayStand, MayFollow, expected_after, first_expected}
-use Rattle.ch_reader.specs.Streams.{IsUnfinished, IsRefusal, IsStreamFrom, IsMalformedFrom, IsStream, IsMalformed}
+use Rattle.ch_reader.specs.Streams.{IsUnfinished, IsRefusal, IsStreamFrom, IsStream, IsMalformed}
 use Rattle.ch_reader.specs.Reading.{reading}
 use Rattle.ch_reader.specs.States.{State, Waits, Holds, Refuses, state_of, fed, taken, held}
 use Rattle.ch_reader.specs.Runs.{Call, Feed, Take, Past, IsBytes, FeedsBytes, beginning, after, run, with_taken, Accounts}
-use Rattle.ch_reader.proofs.Bodies.{at}
-use Rattle.ch_reader.proofs.Readings.{IsHeld, is_held, unfinished_is_held, unfinished_is_all, reads_within}
+use Rattle.ch_reader.proofs.Readings.{IsHeld, is_held, unfinished_is_held, unfinished_is_all}
 use Rattle.ch_reader.proofs.Complete.{reads_item, reads_unfinished, reads_refusal}
 use Rattle.ch_reader.proofs.Sound.{SaysFront, says}
 use Rattle.ch_reader.proofs.Streams.{after_frame, refusal_is_one, never_both}

@@ -1,16 +1,16 @@
 -- What is read stands there: a spelled item, an unfinished rest, a refusal.
-use Rattle.std.proofs.Common.{◌≡◌, ℕ, zero, suc, ◌+◌, ◌-◌, ◌<◌, ◌≤◌, ◌^◌, min, Bool, true, false, cond, nat_lt, nat_eq, ◌==◌, ◌⊎◌, inl, inr, Option, Some, None, Result, Ok, Err, List, [], ◌∷◌, ◌++◌, length, take, drop, get_or, refl, sym, ap, subst, ◌∙◌, append_assoc, arith}
+use Rattle.std.proofs.Common.{◌≡◌, ℕ, ◌+◌, ◌<◌, ◌≤◌, ◌^◌, min, Bool, true, false, cond, nat_lt, ◌==◌, ◌⊎◌, inl, inr, Option, Some, None, Result, Ok, Err, List, ◌++◌, length, take, drop, refl, sym, ap, subst, ◌∙◌, append_assoc, arith}
 use Rattle.std.specs.Prelude.{IsErr}
-use Rattle.std.proofs.lemmas.Bool.{cases_lt, le-ltb, lt-ltb, ltb-true, ltb-false, eqb-true}
+use Rattle.std.proofs.lemmas.Bool.{cases_lt, ltb-true, ltb-false, eqb-true}
 use Rattle.std.proofs.lemmas.Bool.Decides.{nat_tests}
-use Rattle.std.proofs.lemmas.List.{length-append, length-take, length-drop, take-take, drop-take, take-append-drop, drop-drop, get_or-drop, get_or-take, get_or_past}
+use Rattle.std.proofs.lemmas.List.{length-take, length-drop, take-take, drop-take, take-append-drop, drop-drop, get_or-drop, get_or-take, get_or_past}
 use Rattle.std.proofs.lemmas.Nat.{be_bytes_4}
 use Rattle.ch_base.specs.AddressValues.{AddressValue}
-use Rattle.ch_base.specs.Addresses.{IsAddress, address_text, read_address}
+use Rattle.ch_base.specs.Addresses.{address_text, read_address}
 use Rattle.ch_base.specs.declared.address.AddressError.{AddressError}
 use Rattle.ch_base.proofs.Addresses.{read_found}
 use Rattle.ch_wire.specs.Words.{word, word_value, counted}
-use Rattle.ch_wire.specs.Spelling.{answer_number, answer_numbered, head_numbered, frame_spelling}
+use Rattle.ch_wire.specs.Spelling.{answer_number, answer_numbered, head_numbered}
 use Rattle.ch_wire.specs.declared.TheConstants.{FIRST_ID, MOST_ADDRESS_BYTES, MOST_PAYLOAD_BYTES}
 use Rattle.ch_wire.specs.declared.answer.Answer.{Answer}
 use Rattle.ch_wire.specs.declared.answer.Answer.TheVariants.{Accepted, Invalid, Crossed, Mismatch}
@@ -20,24 +20,21 @@ use Rattle.ch_wire.specs.declared.frame.Head.TheVariants as heads
 use Rattle.ch_wire.proofs.Words.{counted_regrouped}
 use Rattle.ch_reader.specs.declared.item.Expected.{Expected}
 use Rattle.ch_reader.specs.declared.item.Expected.TheVariants as expected
-use Rattle.ch_reader.specs.declared.item.Item.{Item}
 use Rattle.ch_reader.specs.declared.item.Item.TheVariants as items
-use Rattle.ch_reader.specs.declared.item.ReaderError.{ReaderError}
-use Rattle.ch_reader.specs.declared.item.ReaderError.TheVariants.{UnknownControl, PayloadLong, AddressLong, BadAddress, BadAnswer}
+use Rattle.ch_reader.specs.declared.item.ReaderError.TheVariants.{UnknownControl, PayloadLong, AddressLong, BadAnswer}
 use Rattle.ch_reader.specs.declared.item.Front.{Front}
 use Rattle.ch_reader.specs.declared.item.Front.TheVariants.{Unfinished, Whole, Refused}
-use Rattle.ch_reader.specs.declared.glance.Glance.{Glance}
 use Rattle.ch_reader.specs.declared.glance.Glance.TheVariants.{Settled, Body}
 use Rattle.ch_reader.specs.declared.glance.Opened.{Opened}
 use Rattle.ch_reader.specs.declared.glance.Opened.TheVariants as opened
 use Rattle.ch_reader.specs.Items.{item_spelling, MayStand}
 use Rattle.ch_reader.specs.Streams.{first_word, second_word, IsPartOfFrame, IsUnfinished, IsUnknownControl, IsRefusal}
-use Rattle.ch_reader.specs.Reading.{frame_header_size, header_size, counted_body, answer_glance, frame_glance, words_glance, glance_at, request_front, body_front, rest_reading, reading}
+use Rattle.ch_reader.specs.Reading.{frame_header_size, header_size, answer_glance, frame_glance, words_glance, request_front, body_front, reading}
 use Rattle.ch_reader.specs.Runs.{IsBytes}
-use Rattle.ch_reader.proofs.Bodies.{at, body_whole}
+use Rattle.ch_reader.proofs.Bodies.{body_whole}
 use Rattle.ch_reader.proofs.Headers.{size_bounds, glance_short, glance_long}
 use Rattle.ch_reader.proofs.Readings.{read_by, reading_by, body_short}
-use Rattle.ch_reader.proofs.Complete.{frame_size_is, frame_words_are}
+use Rattle.ch_reader.proofs.Complete.{frame_size_is}
 
 -- ---- bytes and words
 

@@ -1,6 +1,6 @@
 -- A text is one stream at most, or malformed in one way, and never both.
-use Rattle.std.proofs.Common.{◌≡◌, ℕ, ◌+◌, ◌<◌, ◌⊎◌, inl, inr, Option, Some, None, List, [], ◌∷◌, ◌++◌, length, refl, sym, ap, subst, ◌∙◌, append_assoc, arith}
-use Rattle.std.proofs.lemmas.List.{append-nil, append_cancel_left, map-append}
+use Rattle.std.proofs.Common.{◌≡◌, ℕ, Option, Some, None, List, [], ◌∷◌, ◌++◌, refl, sym, ap, subst, ◌∙◌, append_assoc}
+use Rattle.std.proofs.lemmas.List.{append-nil, append_cancel_left}
 use Rattle.ch_reader.specs.declared.item.Expected.{Expected}
 use Rattle.ch_reader.specs.declared.item.Expected.TheVariants as expected
 use Rattle.ch_reader.specs.declared.item.Item.{Item}
@@ -9,7 +9,7 @@ use Rattle.ch_reader.specs.declared.item.Role.{Role}
 use Rattle.ch_reader.specs.declared.item.Front.{Front}
 use Rattle.ch_reader.specs.declared.item.Front.TheVariants.{Unfinished, Whole, Refused}
 use Rattle.ch_reader.specs.Items.{item_spelling, spellings, MayStand, MayFollow, expected_after, first_expected}
-use Rattle.ch_reader.specs.Streams.{IsUnfinished, IsRefusal, IsStreamFrom, IsMalformedFrom, IsStream, IsMalformed}
+use Rattle.ch_reader.specs.Streams.{IsStreamFrom, IsMalformedFrom}
 use Rattle.ch_reader.specs.Reading.{reading}
 use Rattle.ch_reader.specs.Decoding.{Decodes}
 use Rattle.ch_reader.proofs.Complete.{reads_item, reads_unfinished, reads_refusal}

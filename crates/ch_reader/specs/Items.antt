@@ -1,5 +1,5 @@
 -- The items of a stream, their spellings, and which may stand where.
-use Rattle.std.specs.Prelude.{◌≡◌, ℕ, List, [], ◌∷◌, ◌++◌}
+use Rattle.std.specs.Prelude.{◌≡◌, ℕ, List, [], ◌∷◌}
 use Rattle.std.specs.List.{flat_map}
 use Rattle.ch_wire.specs.Spelling.{IsRequest, IsFrame, request_spelling, answer_spelling, frame_spelling}
 use Rattle.ch_reader.specs.declared.item.Expected.{Expected}

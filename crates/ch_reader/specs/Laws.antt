@@ -1,5 +1,5 @@
 -- The laws of streams, and of any list of feeds and takes.
-use Rattle.std.specs.Prelude.{◌≡◌, ℕ, ◌≤◌, List, ◌++◌, Option}
+use Rattle.std.specs.Prelude.{◌≡◌, ℕ, ◌≤◌, List, ◌++◌}
 use Rattle.std.specs.List.{AllByRecursion}
 use Rattle.ch_reader.specs.declared.item.Expected.{Expected}
 use Rattle.ch_reader.specs.declared.item.Item.{Item}
@@ -7,9 +7,8 @@ use Rattle.ch_reader.specs.declared.item.ReaderError.{ReaderError}
 use Rattle.ch_reader.specs.declared.item.Role.{Role}
 use Rattle.ch_reader.specs.Items.{item_spelling, MayStand}
 use Rattle.ch_reader.specs.Streams.{IsStream, IsMalformed}
-use Rattle.ch_reader.specs.States.{State, Refuses, held}
-use Rattle.ch_reader.specs.Runs.{Call, Past, FeedsBytes, beginning, run, Accounts}
-use Rattle.ch_reader.specs.Decoding.{Decodes}
+use Rattle.ch_reader.specs.States.{Refuses, held}
+use Rattle.ch_reader.specs.Runs.{Call, FeedsBytes, beginning, run, Accounts}
 
 -- Of two items that may stand in the same place, neither's spelling begins the other's.
 abbrev pub ItemsStandApart : Type 0

@@ -1,5 +1,5 @@
 -- What stands at the front of bytes, as a function of them.
-use Rattle.std.specs.Prelude.{ℕ, ◌+◌, List, ◌++◌, length, take, drop, min, Option, Some, None, Result, Ok, Err, nat_lt, if◌then◌else◌}
+use Rattle.std.specs.Prelude.{ℕ, ◌+◌, List, length, take, drop, min, Option, Some, None, Result, Ok, Err, nat_lt, if◌then◌else◌}
 use Rattle.ch_base.specs.AddressValues.{AddressValue}
 use Rattle.ch_base.specs.Addresses.{read_address}
 use Rattle.ch_base.specs.declared.address.AddressError.{AddressError}
@@ -11,7 +11,6 @@ use Rattle.ch_wire.specs.declared.frame.Head.{Head}
 use Rattle.ch_wire.specs.declared.frame.Head.TheVariants as heads
 use Rattle.ch_reader.specs.declared.item.Expected.{Expected}
 use Rattle.ch_reader.specs.declared.item.Expected.TheVariants as expected
-use Rattle.ch_reader.specs.declared.item.Item.{Item}
 use Rattle.ch_reader.specs.declared.item.Item.TheVariants as items
 use Rattle.ch_reader.specs.declared.item.ReaderError.{ReaderError}
 use Rattle.ch_reader.specs.declared.item.ReaderError.TheVariants.{UnknownControl, PayloadLong, AddressLong, BadAddress, BadAnswer}

@@ -1,5 +1,5 @@
 -- What a reader is to its callers, and what feeding and taking make of it.
-use Rattle.std.specs.Prelude.{◌≡◌, ℕ, ◌-◌, ◌≤◌, List, [], ◌++◌, length, Option, Some, None, Result, Ok, Err}
+use Rattle.std.specs.Prelude.{ℕ, ◌-◌, List, [], ◌++◌, length, Option, Some, None, Result, Ok, Err}
 use Rattle.ch_reader.specs.declared.item.Expected.{Expected}
 use Rattle.ch_reader.specs.declared.item.Expected.TheVariants as expected
 use Rattle.ch_reader.specs.declared.item.Item.{Item}

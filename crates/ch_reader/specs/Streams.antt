@@ -1,5 +1,5 @@
 -- What is a stream of items, and what is malformed: two relations on whole texts.
-use Rattle.std.specs.Prelude.{◌≡◌, ℕ, ◌+◌, ◌<◌, ◌≤◌, ◌⊎◌, List, [], ◌∷◌, ◌++◌, length, take, drop, IsErr}
+use Rattle.std.specs.Prelude.{◌≡◌, ℕ, ◌+◌, ◌<◌, ◌≤◌, ◌⊎◌, List, ◌++◌, length, take, drop, IsErr}
 use Rattle.ch_base.specs.Addresses.{read_address}
 use Rattle.ch_wire.specs.Words.{word_value}
 use Rattle.ch_wire.specs.Spelling.{head_numbered}

@@ -64,6 +64,7 @@ fn drain(
     items: &mut Vec<Item>,
 ) -> Result<Option<ReaderError>, OutOfMemory>
     requires { IsReady reader.old }
+    ensures fits { IsBytes piece.now }
     ensures ready { IfOk result (λ r. IsReadyUnless r reader.new) }
     ensures accounts { IfOk result (λ r. (role : Role) (bytes : List ℕ) → IsBytes bytes →
         Accounts role bytes items.old.items reader.old → AccountsAll role bytes piece.now items.new.items reader.new r) }

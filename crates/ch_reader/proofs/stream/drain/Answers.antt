@@ -42,7 +42,7 @@ returns-in-Some-clause-accounts c =
     let whole : IsBytes piece = λ i. omega (arith, c.type_inv.piece i) in
     let steps : Steps c.piece.reader c.feed.new.self c.take_into.new.reader c.piece.items.items c.take_into.new.items.items rest n = record { fed_is = c.in_ok-done.ensures.ok; after_is = c.in_ok-take_into.ensures.reader; items_are = c.in_ok-take_into.ensures.items } in
     accounts_refused c.args.items.now.items c.piece.items.items c.take_into.new.items.items c.args.reader.now c.piece.reader c.feed.new.self c.take_into.new.reader piece rest done n c.in-Some.error (rest_bytes piece rest done tail whole) whole tail steps c.piece.invariant.account
-      (sym c.in_ok-take_into.ensures.refusal ∙ c.in-Some.is)
+    (sym c.in_ok-take_into.ensures.refusal ∙ c.in-Some.is)
 
 pub returns-clause-accounts : goal.returns-clause-accounts
 returns-clause-accounts c role bytes fits a =

@@ -8,5 +8,5 @@ abbrev pub invariant-loop-piece : goal.invariant-loop-piece
 invariant-loop-piece l = record {
   ready : IsReady l.reader;
   fits : IsBytes (flat_map (λ piece. piece) (take l.piece-index l.pieces));
-  account : Accounts l.role (flat_map (λ piece. piece) (take l.piece-index l.pieces)) l.items.items l.reader;
+  account : Accounts l.fn.role (flat_map (λ piece. piece) (take l.piece-index l.pieces)) l.items.items l.reader;
 }

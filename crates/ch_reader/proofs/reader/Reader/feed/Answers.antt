@@ -1,4 +1,4 @@
-use Rattle.std.proofs.Common.{◌≡◌, ◌∙◌, ap, sym, subst, List, ℕ, arith}
+use Rattle.std.proofs.Common.{◌∙◌, ap, sym, subst, List, ℕ, arith}
 use Rattle.std.proofs.lemmas.List.{take_rest}
 use Rattle.ch_reader.specs.Reading.{glance_at}
 use Rattle.ch_reader.specs.States.{State, fed}
