@@ -46,17 +46,22 @@ pub enum ReaderError {
 
 /// What the next item is.
 #[derive(Clone, Copy, Debug, PartialEq, Eq)]
-pub(crate) enum Expected {
+pub enum Expected {
+    /// A request, of a target's end.
     Request,
+    /// An answer, of an opener's end.
     Answer,
+    /// A frame.
     Frame,
 }
 
-/// What stands at the front.
+/// What stands at the front of the bytes since the last item.
 #[derive(Debug, Drop)]
-pub(crate) enum Front {
+pub enum Front {
     /// Less than a whole item.
     Unfinished,
+    /// An item.
     Whole(Item),
+    /// Bytes that no item begins with.
     Refused(ReaderError),
 }

@@ -13,7 +13,7 @@ mod reader;
 mod stream;
 mod words;
 
-pub use item::{Item, ReaderError, Role};
+pub use item::{Expected, Front, Item, ReaderError, Role};
 pub use law::{runs_are_streams, streams_are_one};
-pub use reader::Reader;
+pub use reader::{MOST_HELD_BYTES, Reader};
 pub use stream::{Decoded, decode};

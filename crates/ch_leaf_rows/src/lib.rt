@@ -1,0 +1,7 @@
+//! Rows of single calls of the leaf crates: what a call answers, with values from outside.
+#![tactic(auto)]
+
+#[cfg(test)]
+mod reader;
+#[cfg(test)]
+mod wire;
