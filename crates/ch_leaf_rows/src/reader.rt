@@ -1,5 +1,7 @@
 //! Streams by hand: their items, in any pieces, and each refusal with its place.
 
+ghost use Rattle.std.specs.Prelude.{◌<◌};
+
 use ch_base::Text;
 use ch_reader::{Decoded, Item, Reader, ReaderError, Role, decode};
 use ch_wire::{Answer, Frame};
