@@ -12,8 +12,8 @@ use std::test::Fail;
 /// Where line 2 comes next.
 const HEADER: [&[u8]; 1] = [b"chjournal 1"];
 
-/// Where line 5 comes next.
-const NODE: [&[u8]; 4] = [b"chjournal 1", b"node a h:1:0 7", b"", b"; a comment"];
+/// Where line 4 comes next.
+const NODE: [&[u8]; 3] = [b"chjournal 1", b"node a h:1:0 7", b"proc a"];
 
 /// Refused as the first line.
 const NO_HEADER: [(&[u8], BadKind); 6] = [
@@ -46,7 +46,9 @@ const NO_NODE: [(&[u8], BadKind); 16] = [
 ];
 
 /// Refused where the node `a` is declared: of the wrong form.
-const NO_FORM: [(&[u8], BadKind); 40] = [
+const NO_FORM: [(&[u8], BadKind); 42] = [
+    (b"", BadKind::Form),
+    (b"; a comment", BadKind::Form),
     (b"bad", BadKind::Form),
     (b"Proc a", BadKind::Form),
     (b" proc a", BadKind::Form),
@@ -111,20 +113,17 @@ const NO_NUMBER_OR_NAME: [(&[u8], BadKind); 14] = [
 ];
 
 /// Read where no node is declared, and the canonical texts.
-const NODES: [(&[u8], &[u8]); 4] = [
+const NODES: [(&[u8], &[u8]); 3] = [
     (b"node a h:1:0 7", b"node a h:1:0 7\n"),
     (
         b"node a0123456789bcde h:65535:4294967295 4294967295",
         b"node a0123456789bcde h:65535:4294967295 4294967295\n",
     ),
     (b"node z A.b-c:1:0 0", b"node z A.b-c:1:0 0\n"),
-    (b";", b""),
 ];
 
 /// Read where the node `a` is declared, and the canonical texts.
-const EVENTS: [(&[u8], &[u8]); 14] = [
-    (b"", b""),
-    (b"; proc a", b""),
+const EVENTS: [(&[u8], &[u8]); 12] = [
     (b"proc a", b"proc a\n"),
     (b"send a.0 a.1 t 01", b"send a.0 a.1 t 01\n"),
     (b"send a.0 a.1 t 0aFF", b"send a.0 a.1 t 0aff\n"),
@@ -178,11 +177,11 @@ fn refuses(
 fn refused_lines(rt: HostRuntime) {
     refuses(&rt, rt.alloc(), &[], 1, &NO_HEADER);
     refuses(&rt, rt.alloc(), &HEADER, 2, &NO_NODE);
-    refuses(&rt, rt.alloc(), &NODE, 5, &NO_FORM);
-    refuses(&rt, rt.alloc(), &NODE, 5, &NO_NUMBER_OR_NAME);
+    refuses(&rt, rt.alloc(), &NODE, 4, &NO_FORM);
+    refuses(&rt, rt.alloc(), &NODE, 4, &NO_NUMBER_OR_NAME);
 }
 
-/// The canonical text of what a line says after these lines; no text where it says nothing.
+/// The canonical text of what a line says after these lines; no text for the header.
 fn canonical(alloc: Global, before: &[&[u8]], text: &[u8]) -> Result<Vec<u8>, JournalError> {
     let mut out = Vec::new(alloc);
     match read_after(alloc, before, text)? {
@@ -331,10 +330,9 @@ fn texts_of_entries(rt: HostRuntime) -> Result<(), Fail> {
         ),
     ];
     for (entry, wanted) in &rows {
-        let mut out = Vec::from_slice(alloc, b"before\n")?;
+        let mut out = Vec::new(alloc);
         assert!(rt; put_entry(entry, &mut out).is_ok());
-        assert_eq!(rt; &out.as_slice()[..7], b"before\n".as_slice());
-        assert_eq!(rt; &out.as_slice()[7..], *wanted);
+        assert_eq!(rt; out.as_slice(), *wanted);
     }
     Ok(())
 }
