@@ -1,5 +1,5 @@
 -- How a field is split off, and what a callee's refusal says of a field.
-use Rattle.std.proofs.Common.{◌≡◌, ℕ, suc, ◌+◌, Bool, true, false, not, cond, List, [], ◌∷◌, length, Option, Some, None, nat_lt, ◌==◌, refl, arith, add-one}
+use Rattle.std.proofs.Common.{◌≡◌, ℕ, suc, ◌+◌, true, false, not, cond, List, [], ◌∷◌, length, Option, Some, None, nat_lt, ◌==◌, refl, arith, add-one}
 use Rattle.std.specs.List.{position, position_or_len}
 use Rattle.ch_base.specs.Addresses.{after_front, around}
 use Rattle.ch_model.specs.Fields.{at_byte}

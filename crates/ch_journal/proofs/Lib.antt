@@ -1,1 +1,4 @@
 pub mod Fields
+pub mod Parts
+pub mod Classes
+pub mod Lines

@@ -6,12 +6,14 @@
 
 mod fault;
 mod field;
+mod law;
 mod line;
 mod reading;
 mod status;
 mod writing;
 
 pub use field::split_at_byte;
+pub use law::canonical_line_reads_back;
 pub use reading::{JournalError, Reading};
 pub use status::Status;
 pub use writing::{put_entry, put_line};

@@ -1,0 +1,382 @@
+//! Lines that are read, with their canonical texts; lines that are refused, with their kind and
+//! place; the texts of entries and of statuses.
+
+use ch_base::Text;
+use ch_ident::{IdentError, Name, Reason};
+use ch_journal::{JournalError, Reading, Status, put_entry, put_line};
+use ch_model::{BadKind, Entry, Line, ProcName, Verdict};
+use std::alloc::{AllocError, Global};
+use std::process::Abort;
+use std::test::Fail;
+
+/// Where line 2 comes next.
+const HEADER: [&[u8]; 1] = [b"chjournal 1"];
+
+/// Where line 4 comes next.
+const NODE: [&[u8]; 3] = [b"chjournal 1", b"node a h:1:0 7", b"proc a"];
+
+/// Refused as the first line.
+const NO_HEADER: [(&[u8], BadKind); 6] = [
+    (b"", BadKind::Form),
+    (b"; a comment", BadKind::Form),
+    (b"chjournal 2", BadKind::Form),
+    (b"chjournal 1 ", BadKind::Form),
+    (b"Chjournal 1", BadKind::Form),
+    (b"proc a", BadKind::Form),
+];
+
+/// Refused where no node is declared.
+const NO_NODE: [(&[u8], BadKind); 16] = [
+    (b"node a h:1:0", BadKind::Form),
+    (b"node a h:1:0 7 8", BadKind::Form),
+    (b"node A h:1:0 7", BadKind::Form),
+    (b"node a h 7", BadKind::Form),
+    (b"node a :1:0 7", BadKind::Form),
+    (b"node a h:0:0 7", BadKind::Form),
+    (b"node a h:65536:0 7", BadKind::Form),
+    (b"node a h:1:00 7", BadKind::Form),
+    (b"node a h:1:0 x", BadKind::Form),
+    (b"node a h:01:0 07", BadKind::Form),
+    (b"node a h:1:0 07", BadKind::Number),
+    (b"node a h:1:0 4294967296", BadKind::Number),
+    (b"proc A", BadKind::Form),
+    (b"proc a", BadKind::Undeclared),
+    (b"send a.0 a.1 t 01", BadKind::Undeclared),
+    (b"chjournal 1", BadKind::Form),
+];
+
+/// Refused where the node `a` is declared: of the wrong form.
+const NO_FORM: [(&[u8], BadKind); 42] = [
+    (b"", BadKind::Form),
+    (b"; a comment", BadKind::Form),
+    (b"bad", BadKind::Form),
+    (b"Proc a", BadKind::Form),
+    (b" proc a", BadKind::Form),
+    (b" ", BadKind::Form),
+    (b"proc", BadKind::Form),
+    (b"proc ", BadKind::Form),
+    (b"proc  a", BadKind::Form),
+    (b"proc a ", BadKind::Form),
+    (b"proc a b", BadKind::Form),
+    (b"proc 1a", BadKind::Form),
+    (b"proc a-b", BadKind::Form),
+    (b"proc abcdefghijklmnopq", BadKind::Form),
+    (b"node b h:2:0 8", BadKind::Form),
+    (b"node a h:1:0 7", BadKind::Form),
+    (b"send a.0 a.1 t", BadKind::Form),
+    (b"send a.0 a.1 t 01 02", BadKind::Form),
+    (b"send a a.1 t 01", BadKind::Form),
+    (b"send a. a.1 t 01", BadKind::Form),
+    (b"send .0 a.1 t 01", BadKind::Form),
+    (b"send a.0 a.x t 01", BadKind::Form),
+    (b"send a.-1 a.1 t 01", BadKind::Form),
+    (b"send a.+1 a.1 t 01", BadKind::Form),
+    (b"send a.0 a.1/0 t 01", BadKind::Form),
+    (b"send a.0 a.1 $t 01", BadKind::Form),
+    (b"send a.0 a.1  01", BadKind::Form),
+    (
+        b"send a.0 a.1 tttttttttttttttttttttttttttttttttttttttttttttttttttttttttttttttt 01",
+        BadKind::Form,
+    ),
+    (b"send a.0 a.1 t\x7f 01", BadKind::Form),
+    (b"send a.0 a.1 t 0", BadKind::Form),
+    (b"send a.0 a.1 t 0g", BadKind::Form),
+    (b"send a.0 a.1 t --", BadKind::Form),
+    (b"send a.0 a.1 t ", BadKind::Form),
+    (b"send b.01 a.0 $t 01", BadKind::Form),
+    (b"recv a.0", BadKind::Form),
+    (b"recv a.0 t t", BadKind::Form),
+    (b"recv a.0 ", BadKind::Form),
+    (b"recv a.0.0 t", BadKind::Form),
+    (b"end", BadKind::Form),
+    (b"end a", BadKind::Form),
+    (b"end a.0 ", BadKind::Form),
+    (b"nsend a.0 a:t t 01", BadKind::Form),
+];
+
+/// Refused where the node `a` is declared: a number out of its rule, or another name.
+const NO_NUMBER_OR_NAME: [(&[u8], BadKind); 14] = [
+    (b"send a.00 a.1 t 01", BadKind::Number),
+    (b"send a.0 a.01 t 01", BadKind::Number),
+    (b"send a.4294967296 a.1 t 01", BadKind::Number),
+    (b"send b.0 a.01 t 01", BadKind::Number),
+    (b"recv a.00 t", BadKind::Number),
+    (b"end a.4294967296", BadKind::Number),
+    (b"end a.99999999999999999999999", BadKind::Number),
+    (b"end b.01", BadKind::Number),
+    (b"proc b", BadKind::Undeclared),
+    (b"send b.0 a.0 t 01", BadKind::Undeclared),
+    (b"send a.0 b.0 t 01", BadKind::Undeclared),
+    (b"recv b.0 t", BadKind::Undeclared),
+    (b"end b.0", BadKind::Undeclared),
+    (b"end aa.0", BadKind::Undeclared),
+];
+
+/// Read where no node is declared, and the canonical texts.
+const NODES: [(&[u8], &[u8]); 3] = [
+    (b"node a h:1:0 7", b"node a h:1:0 7\n"),
+    (
+        b"node a0123456789bcde h:65535:4294967295 4294967295",
+        b"node a0123456789bcde h:65535:4294967295 4294967295\n",
+    ),
+    (b"node z A.b-c:1:0 0", b"node z A.b-c:1:0 0\n"),
+];
+
+/// Read where the node `a` is declared, and the canonical texts.
+const EVENTS: [(&[u8], &[u8]); 12] = [
+    (b"proc a", b"proc a\n"),
+    (b"send a.0 a.1 t 01", b"send a.0 a.1 t 01\n"),
+    (b"send a.0 a.1 t 0aFF", b"send a.0 a.1 t 0aff\n"),
+    (b"send a.0 a.1 t -", b"send a.0 a.1 t -\n"),
+    (
+        b"send a.4294967295 a.10 ! 00",
+        b"send a.4294967295 a.10 ! 00\n",
+    ),
+    (
+        b"send a.0 a.1 ttttttttttttttttttttttttttttttttttttttttttttttttttttttttttttttt 01",
+        b"send a.0 a.1 ttttttttttttttttttttttttttttttttttttttttttttttttttttttttttttttt 01\n",
+    ),
+    (b"send a.0 a.0 t$ ABCD", b"send a.0 a.0 t$ abcd\n"),
+    (b"recv a.0 $died", b"recv a.0 $died\n"),
+    (b"recv a.4294967295 ~", b"recv a.4294967295 ~\n"),
+    (b"recv a.1 -", b"recv a.1 -\n"),
+    (b"end a.0", b"end a.0\n"),
+    (b"end a.1000", b"end a.1000\n"),
+];
+
+/// A reading of these lines, and what the next one says.
+fn read_after(alloc: Global, before: &[&[u8]], text: &[u8]) -> Result<Option<Line>, JournalError> {
+    let mut reading = Reading::new(alloc);
+    for line in before {
+        reading.line(*line)?;
+    }
+    reading.line(text)
+}
+
+/// Each line is refused after these lines, at its place.
+fn refuses(
+    rt: &impl Abort,
+    alloc: Global,
+    before: &[&[u8]],
+    place: u32,
+    rows: &[(&[u8], BadKind)],
+) {
+    for (text, kind) in rows {
+        assert_eq!(rt;
+            read_after(alloc, before, *text).err(),
+            Some(JournalError::BadLine {
+                line: place,
+                kind: *kind,
+            }),
+            "at {text:?}"
+        );
+    }
+}
+
+#[test]
+fn refused_lines(rt: HostRuntime) {
+    refuses(&rt, rt.alloc(), &[], 1, &NO_HEADER);
+    refuses(&rt, rt.alloc(), &HEADER, 2, &NO_NODE);
+    refuses(&rt, rt.alloc(), &NODE, 4, &NO_FORM);
+    refuses(&rt, rt.alloc(), &NODE, 4, &NO_NUMBER_OR_NAME);
+}
+
+/// The canonical text of what a line says after these lines; no text for the header.
+fn canonical(alloc: Global, before: &[&[u8]], text: &[u8]) -> Result<Vec<u8>, JournalError> {
+    let mut out = Vec::new(alloc);
+    match read_after(alloc, before, text)? {
+        None => {}
+        Some(line) => match put_line(&line, &mut out) {
+            Ok(()) => {}
+            Err(_) => return Err(JournalError::OutOfMemory),
+        },
+    }
+    Ok(out)
+}
+
+/// Each line is read after these lines, and its canonical text too.
+fn accepts(
+    rt: &impl Abort,
+    alloc: Global,
+    before: &[&[u8]],
+    rows: &[(&[u8], &[u8])],
+) -> Result<(), JournalError> {
+    for (text, wanted) in rows {
+        let out = canonical(alloc, before, *text)?;
+        assert_eq!(rt; out.as_slice(), *wanted, "at {text:?}");
+    }
+    Ok(())
+}
+
+#[test]
+fn accepted_lines(rt: HostRuntime) -> Result<(), Fail> {
+    accepts(&rt, rt.alloc(), &HEADER, &NODES)?;
+    accepts(&rt, rt.alloc(), &NODE, &EVENTS)?;
+    Ok(())
+}
+
+/// A refused line is the answer for good, and isn't counted.
+#[test]
+fn a_refusal_stays(rt: HostRuntime) {
+    let refused = Some(JournalError::BadLine {
+        line: 3,
+        kind: BadKind::Undeclared,
+    });
+    let mut reading = Reading::new(rt.alloc());
+    assert_eq!(rt; reading.line(b"chjournal 1").err(), None);
+    assert_eq!(rt; reading.line(b"node a h:1:0 7").err(), None);
+    assert_eq!(rt; reading.line(b"proc b").err(), refused);
+    assert_eq!(rt; reading.line(b"proc a").err(), refused);
+    assert_eq!(rt; reading.line(b"bad").err(), refused);
+    assert_eq!(rt; reading.lines_read(), 2);
+}
+
+fn process(alloc: Global, counter: u32) -> Result<ProcName, AllocError> {
+    Ok(ProcName {
+        node: Text::from_vec(Vec::from_slice(alloc, b"a")?),
+        counter,
+    })
+}
+
+fn body(alloc: Global, bytes: &[u8]) -> Result<Text, AllocError> {
+    Ok(Text::from_vec(Vec::from_slice(alloc, bytes)?))
+}
+
+fn mark(alloc: Global) -> Result<Name, IdentError> {
+    Name::new(alloc, b"t")
+}
+
+/// One entry after another, with the text of each.
+#[test]
+fn texts_of_entries(rt: HostRuntime) -> Result<(), Fail> {
+    let alloc = rt.alloc();
+    let rows = [
+        (
+            Entry::Line {
+                number: 4294967295,
+                answer: Verdict::Ok,
+            },
+            b"line 4294967295 ok\n".as_slice(),
+        ),
+        (
+            Entry::Line {
+                number: 3,
+                answer: Verdict::Unknown,
+            },
+            b"line 3 unknown\n".as_slice(),
+        ),
+        (
+            Entry::Line {
+                number: 10,
+                answer: Verdict::Dead,
+            },
+            b"line 10 dead\n".as_slice(),
+        ),
+        (
+            Entry::Line {
+                number: 6,
+                answer: Verdict::Empty,
+            },
+            b"line 6 empty\n".as_slice(),
+        ),
+        (
+            Entry::Made {
+                process: process(alloc, 0)?,
+            },
+            b"made a.0 - -\n".as_slice(),
+        ),
+        (
+            Entry::Said {
+                by: process(alloc, 0)?,
+                to: process(alloc, 1)?,
+                epoch: 0,
+                index: 18446744073709551615,
+                mark: mark(alloc)?,
+                body: body(alloc, b"\x01\xff")?,
+            },
+            b"said a.0 a.1 0 18446744073709551615 t 01ff\n".as_slice(),
+        ),
+        (
+            Entry::Got {
+                by: process(alloc, 0)?,
+                to: process(alloc, 1)?,
+                epoch: 2,
+                index: 10,
+                receiver: process(alloc, 1)?,
+            },
+            b"got a.0 a.1 2 10 a.1\n".as_slice(),
+        ),
+        (
+            Entry::Took {
+                by: process(alloc, 1)?,
+                mark: mark(alloc)?,
+                body: body(alloc, b"")?,
+            },
+            b"took a.1 t -\n".as_slice(),
+        ),
+        (
+            Entry::Over {
+                process: process(alloc, 1)?,
+                reason: Reason::Normal,
+            },
+            b"over a.1 normal\n".as_slice(),
+        ),
+        (
+            Entry::Over {
+                process: process(alloc, 1)?,
+                reason: Reason::Exception(body(alloc, b"odd")?),
+            },
+            b"over a.1 exception odd\n".as_slice(),
+        ),
+    ];
+    for (entry, wanted) in &rows {
+        let mut out = Vec::new(alloc);
+        assert!(rt; put_entry(entry, &mut out).is_ok());
+        assert_eq!(rt; out.as_slice(), *wanted);
+    }
+    Ok(())
+}
+
+/// The exit numbers and the texts on standard error.
+#[test]
+fn statuses(rt: HostRuntime) {
+    let bad = Status::BadLine {
+        line: 4294967295,
+        kind: BadKind::Undeclared,
+    };
+    let rows = [
+        (Status::Usage, 2, b"usage".as_slice()),
+        (Status::ReadFault, 3, b"read fault".as_slice()),
+        (Status::WriteFault, 4, b"write fault".as_slice()),
+        (bad, 5, b"line 4294967295: undeclared".as_slice()),
+        (
+            Status::TooLong { line: 2 },
+            6,
+            b"line 2: too long".as_slice(),
+        ),
+        (Status::OutOfMemory, 7, b"out of memory".as_slice()),
+        (Status::Worn, 10, b"counts worn".as_slice()),
+    ];
+    for (status, code, wanted) in rows {
+        assert_eq!(rt; status.code(), code);
+        match status.message() {
+            None => assert!(rt; false),
+            Some(text) => assert_eq!(rt; text.as_slice(), wanted),
+        }
+    }
+    assert_eq!(rt; Status::Done.code(), 0);
+    assert!(rt; Status::Done.message().is_none());
+    let kinds = [
+        (BadKind::Form, b"line 1: form".as_slice()),
+        (BadKind::Number, b"line 1: number".as_slice()),
+        (BadKind::Undeclared, b"line 1: undeclared".as_slice()),
+        (BadKind::Repeated, b"line 1: repeated".as_slice()),
+        (BadKind::Late, b"line 1: late".as_slice()),
+    ];
+    for (kind, wanted) in kinds {
+        match (Status::BadLine { line: 1, kind }).message() {
+            None => assert!(rt; false),
+            Some(text) => assert_eq!(rt; text.as_slice(), wanted),
+        }
+    }
+}

@@ -1,0 +1,5 @@
+//! Rows of single calls of the upper crates: what a call answers, with values from outside.
+#![tactic(auto)]
+
+#[cfg(test)]
+mod journal;
