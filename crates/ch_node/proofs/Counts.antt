@@ -14,9 +14,9 @@ pub found : (test : ℕ × ℕ → Bool) (pair : ℕ × ℕ) → ((q : ℕ × �
 found test pair same [] = refl
 found test pair same (e ∷ es) = ap (λ (t : Bool). or_none (cond t (Some e.1) (lookup test es))) (same e.0) ∙ by_test (same_pair pair e.0) (found test pair same es)
   where
-  by_test : (t : Bool) → or_none (lookup test es) ≡ next_index es pair → or_none (cond t (Some e.1) (lookup test es)) ≡ cond t e.1 (next_index es pair)
-  by_test true h = refl
-  by_test false h = h
+    by_test : (t : Bool) → or_none (lookup test es) ≡ next_index es pair → or_none (cond t (Some e.1) (lookup test es)) ≡ cond t e.1 (next_index es pair)
+    by_test true h = refl
+    by_test false h = h
 
 -- what is inserted under the key is the pair's new count
 pub inserted : (eq : ℕ × ℕ → ℕ × ℕ → Bool) → ((p q : ℕ × ℕ) → eq p q ≡ same_pair p q) → (es : List ((ℕ × ℕ) × ℕ)) (pair : ℕ × ℕ) (said : ℕ) → insert_entry eq es pair said ≡ with_said es pair said

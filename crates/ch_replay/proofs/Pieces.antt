@@ -50,9 +50,11 @@ taken_more (Some before) None l1 bytes n lent t r = cc
 taken_more (Some before) (Some now) l1 bytes n lent t r =
     let is : now ≡ t.0 = cc in
     let cut : take n t.0 ++ drop n t.0 ≡ t.0 = take-append-drop n t.0 in
-    let same : take n t.0 ≡ take n lent = subst (λ (x : List ℕ). take n x ≡ take n lent) is r.1 in
-    (drop n t.0, r.0 ∙ ap (λ (x : List ℕ). Some (drop n x)) is,
-     t.2 ∙ ap (λ (x : List ℕ). bytes ++ x) (sym cut ∙ ap (λ (x : List ℕ). x ++ drop n t.0) same) ∙ sym (append_assoc bytes (take n lent) (drop n t.0)))
+    let same : take n t.0 ≡ take n lent = subst (λ (x : List ℕ). take n x ≡ take n lent) is r.1 in (
+      drop n t.0,
+      r.0 ∙ ap (λ (x : List ℕ). Some (drop n x)) is,
+      t.2 ∙ ap (λ (x : List ℕ). bytes ++ x) (sym cut ∙ ap (λ (x : List ℕ). x ++ drop n t.0) same) ∙ sym (append_assoc bytes (take n lent) (drop n t.0)),
+    )
 
 -- the source had no more than what was taken
 pub intake_end : (l0 l l1 : Option (List ℕ)) (bytes lent : List ℕ) (n : ℕ) → n ≡ 0 → length bytes ≤ longest_journal → Taken l0 l bytes → Reads l l1 n lent → 0 < length lent → IsIntake l0 l1 bytes

@@ -34,28 +34,29 @@ reading_is before text fresh few = let n : (before.number == 4294967295) ≡ fal
 pub was_read : (before now : ReadingState) (text : List ℕ) (line : Option Line) → before.refused ≡ None → before.number < 4294967295 → Answers (Ok line) before now (read_on before text) → WasRead before now text line
 was_read before now text line fresh few a = by_read (read_line before.told text) refl (subst (λ s. Answers (Ok line) before now s) (reading_is before text fresh few) a)
   where
-  by_read : (r : Result (Option What × Told) BadKind) → read_line before.told text ≡ r → Answers (Ok line) before now (read_as before (before.number + 1) r) → WasRead before now text line
-  by_read (Ok read) e b = record {
-    what = read.0;
-    read = rw b.1 e;
-    line_is = let h : numbered_line (before.number + 1) read.0 ≡ line = cc in sym h;
-    number = ap (λ (s : ReadingState). s.number) b.1;
-    fresh = ap (λ (s : ReadingState). s.refused) b.1 ∙ fresh }
-  by_read (Err kind) e b = cc
+    by_read : (r : Result (Option What × Told) BadKind) → read_line before.told text ≡ r → Answers (Ok line) before now (read_as before (before.number + 1) r) → WasRead before now text line
+    by_read (Ok read) e b = record {
+      what = read.0;
+      read = rw b.1 e;
+      line_is = let h : numbered_line (before.number + 1) read.0 ≡ line = cc in sym h;
+      number = ap (λ (s : ReadingState). s.number) b.1;
+      fresh = ap (λ (s : ReadingState). s.refused) b.1 ∙ fresh;
+    }
+    by_read (Err kind) e b = cc
 
 pub was_refused : (before now : ReadingState) (text : List ℕ) (line : ℕ) (kind : BadKind) → before.refused ≡ None → before.number < 4294967295 → Answers (Err (reads.BadLine line kind)) before now (read_on before text) → read_line before.told text ≡ Err kind
 was_refused before now text line kind fresh few a = by_read (read_line before.told text) refl (subst (λ s. Answers (Err (reads.BadLine line kind)) before now s) (reading_is before text fresh few) a)
   where
-  by_read : (r : Result (Option What × Told) BadKind) → read_line before.told text ≡ r → Answers (Err (reads.BadLine line kind)) before now (read_as before (before.number + 1) r) → read_line before.told text ≡ Err kind
-  by_read (Ok read) e b = cc
-  by_read (Err other) e b = let h : other ≡ kind = cc in rw (← h) e
+    by_read : (r : Result (Option What × Told) BadKind) → read_line before.told text ≡ r → Answers (Err (reads.BadLine line kind)) before now (read_as before (before.number + 1) r) → read_line before.told text ≡ Err kind
+    by_read (Ok read) e b = cc
+    by_read (Err other) e b = let h : other ≡ kind = cc in rw (← h) e
 
 pub not_worn : (before now : ReadingState) (text : List ℕ) → before.refused ≡ None → before.number < 4294967295 → Answers (Err reads.Worn) before now (read_on before text) → ⊥
 not_worn before now text fresh few a = by_read (read_line before.told text) (subst (λ s. Answers (Err reads.Worn) before now s) (reading_is before text fresh few) a)
   where
-  by_read : (r : Result (Option What × Told) BadKind) → Answers (Err reads.Worn) before now (read_as before (before.number + 1) r) → ⊥
-  by_read (Ok read) b = cc
-  by_read (Err other) b = cc
+    by_read : (r : Result (Option What × Told) BadKind) → Answers (Err reads.Worn) before now (read_as before (before.number + 1) r) → ⊥
+    by_read (Ok read) b = cc
+    by_read (Err other) b = cc
 
 abbrev Told2 : Type 0
 Told2 = List ℕ × Option (ℕ × LineFault)
@@ -66,27 +67,27 @@ onto_both old more (Err stop) = refl
 
 -- a line that went on, and the lines after it, are the whole
 whole_after : (p p1 : Progress) (line : List ℕ × Bool) (more old : List ℕ) (room : ℕ) (raw rest : List (List ℕ × Bool)) (goal : Result Told2 Stop)
-  → raw ≡ line ∷ rest → is_too_long room line ≡ false → one_line p line.0 ≡ Ok (Ok (more, p1))
-  → onto old (replayed p room raw) ≡ goal
-  → onto (old ++ more) (replayed p1 (room - size_of line) rest) ≡ goal
+    → raw ≡ line ∷ rest → is_too_long room line ≡ false → one_line p line.0 ≡ Ok (Ok (more, p1))
+    → onto old (replayed p room raw) ≡ goal
+    → onto (old ++ more) (replayed p1 (room - size_of line) rest) ≡ goal
 whole_after p p1 line more old room raw rest goal cut short went whole =
     let at_line : onto old (replayed p room (line ∷ rest)) ≡ goal = subst (λ (r : List (List ℕ × Bool)). onto old (replayed p room r) ≡ goal) cut whole in
     let not_long : onto old (one_line p line.0 >>= λ r. elim r [ Err kind ↦ Ok ([], Some (p.number + 1, Bad kind)) | Ok done ↦ (replayed done.1 (room - size_of line) rest >>= λ more. Ok (after_text done.0 more)) ]) ≡ goal =
-      subst (λ (t : Bool). onto old (cond t (Ok ([], Some (p.number + 1, TooLong))) (one_line p line.0 >>= λ r. elim r [ Err kind ↦ Ok ([], Some (p.number + 1, Bad kind)) | Ok done ↦ (replayed done.1 (room - size_of line) rest >>= λ more. Ok (after_text done.0 more)) ])) ≡ goal) short at_line in
+    subst (λ (t : Bool). onto old (cond t (Ok ([], Some (p.number + 1, TooLong))) (one_line p line.0 >>= λ r. elim r [ Err kind ↦ Ok ([], Some (p.number + 1, Bad kind)) | Ok done ↦ (replayed done.1 (room - size_of line) rest >>= λ more. Ok (after_text done.0 more)) ])) ≡ goal) short at_line in
     let gone : onto old (replayed p1 (room - size_of line) rest >>= λ m. Ok (after_text more m)) ≡ goal =
-      subst (λ (o : Result (Result (List ℕ × Progress) BadKind) Stop). onto old (o >>= λ r. elim r [ Err kind ↦ Ok ([], Some (p.number + 1, Bad kind)) | Ok done ↦ (replayed done.1 (room - size_of line) rest >>= λ more. Ok (after_text done.0 more)) ]) ≡ goal) went not_long in
+    subst (λ (o : Result (Result (List ℕ × Progress) BadKind) Stop). onto old (o >>= λ r. elim r [ Err kind ↦ Ok ([], Some (p.number + 1, Bad kind)) | Ok done ↦ (replayed done.1 (room - size_of line) rest >>= λ more. Ok (after_text done.0 more)) ]) ≡ goal) went not_long in
     onto_both old more (replayed p1 (room - size_of line) rest) ∙ gone
 
 -- the same of a turn
 pub turn_goes_on : (before now : ReadingState) (world after : Option World) (line : List ℕ) (ended : Bool) (old new : List ℕ) (kind : Option BadKind) (room size : ℕ) (raw rest : List (List ℕ × Bool)) (goal : Result Told2 Stop)
-  → kind ≡ None → IsTurn (Ok kind) before now world after line old new
-  → raw ≡ (line, ended) ∷ rest → nat_lt 8192 (length line) ≡ false → nat_lt room size ≡ false → size ≡ size_of (line, ended)
-  → onto old (replayed (progress_of before world) room raw) ≡ goal
-  → (now.refused ≡ None) × (now.number ≡ before.number + 1) × (onto new (replayed (progress_of now after) (room - size) rest) ≡ goal)
+    → kind ≡ None → IsTurn (Ok kind) before now world after line old new
+    → raw ≡ (line, ended) ∷ rest → nat_lt 8192 (length line) ≡ false → nat_lt room size ≡ false → size ≡ size_of (line, ended)
+    → onto old (replayed (progress_of before world) room raw) ≡ goal
+    → (now.refused ≡ None) × (now.number ≡ before.number + 1) × (onto new (replayed (progress_of now after) (room - size) rest) ≡ goal)
 turn_goes_on before now world after line ended old new (Some kind) room size raw rest goal e t cut short fits is whole = cc
 turn_goes_on before now world after line ended old new None room size raw rest goal e t cut short fits is whole =
     let fits2 : nat_lt room (size_of (line, ended)) ≡ false = subst (λ (k : ℕ). nat_lt room k ≡ false) is fits in
     let not_long : is_too_long room (line, ended) ≡ false = rw (short, fits2) refl in
     let done : onto (old ++ t.2) (replayed (progress_of now after) (room - size_of (line, ended)) rest) ≡ goal =
-      whole_after (progress_of before world) (progress_of now after) (line, ended) t.2 old room raw rest goal cut not_long t.3 whole in
+    whole_after (progress_of before world) (progress_of now after) (line, ended) t.2 old room raw rest goal cut not_long t.3 whole in
     (t.0, t.1, ap (λ (x : List ℕ). onto x (replayed (progress_of now after) (room - size) rest)) t.4 ∙ ap (λ (k : ℕ). onto (old ++ t.2) (replayed (progress_of now after) (room - k) rest)) is ∙ done)

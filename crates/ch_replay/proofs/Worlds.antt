@@ -42,10 +42,10 @@ Kept e old new = new ≡ old
 
 -- What was answered by a node that did what the model says is what the model answers.
 pub answers : {V E : Type 0} (view : V → List Note) (seen : E → List Entry) (name : List ℕ) (old new : NodeState) (number : ℕ) (model : Result (List Note × NodeState) CommandError) (done : Result V CommandError) (result : Result E Stop)
-  → MatchResult done (λ d. model ≡ Ok (view d, new)) (λ e. Fails e model)
-  → IfErr done (λ e. Kept e old new)
-  → Gives seen result (entries_answered view (world_of name new) number done)
-  → MatchResult result (λ es. answered (world_of name old) number model ≡ Ok (seen es, world_of name new)) (λ e. Stops e (answered (world_of name old) number model))
+    → MatchResult done (λ d. model ≡ Ok (view d, new)) (λ e. Fails e model)
+    → IfErr done (λ e. Kept e old new)
+    → Gives seen result (entries_answered view (world_of name new) number done)
+    → MatchResult result (λ es. answered (world_of name old) number model ≡ Ok (seen es, world_of name new)) (λ e. Stops e (answered (world_of name old) number model))
 answers view seen name old new number model (Ok d) (Ok es) m k g =
     let same : entries_of (world_of name old) (view d) ≡ entries_of (world_of name new) (view d) = same_entries name old new 0 0 (view d) in
     let is : entries.Line number verdicts.Ok ∷ entries_of (world_of name new) (view d) ≡ seen es = cc in

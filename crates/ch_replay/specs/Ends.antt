@@ -45,6 +45,7 @@ Ends status None left held0 held1 = Unit {0}
 -- the status of a journal whose log was written
 abbrev pub status_of_fault : Option (ℕ × LineFault) → Status
 status_of_fault None = Done
-status_of_fault (Some fault) = elim fault.1
-  [ faults.Bad kind ↦ BadLine fault.0 kind
-  | faults.TooLong ↦ TooLong fault.0 ]
+status_of_fault (Some fault) = elim fault.1 [
+  | faults.Bad kind ↦ BadLine fault.0 kind
+  | faults.TooLong ↦ TooLong fault.0
+]

@@ -33,9 +33,10 @@ went_on progress (Some what) told = do
 
 -- the next line, or the kind of its refusal
 abbrev pub one_line : Progress → List ℕ → Result (Result (List ℕ × Progress) BadKind) Stop
-one_line progress text = elim (read_line progress.told text)
-  [ Err kind ↦ Ok (Err kind)
-  | Ok read ↦ (went_on progress read.0 read.1 >>= λ done. Ok (Ok done)) ]
+one_line progress text = elim (read_line progress.told text) [
+  | Err kind ↦ Ok (Err kind)
+  | Ok read ↦ (went_on progress read.0 read.1 >>= λ done. Ok (Ok done))
+]
 
 -- a text before what follows
 abbrev pub after_text : List ℕ → List ℕ × Option (ℕ × LineFault) → List ℕ × Option (ℕ × LineFault)
@@ -46,9 +47,10 @@ abbrev pub replayed : Progress → ℕ → List (List ℕ × Bool) → Result (L
 replayed progress room [] = Ok ([], None)
 replayed progress room (line ∷ rest) =
     if is_too_long room line then Ok ([], Some (progress.number + 1, TooLong)) else (
-      one_line progress line.0 >>= λ r. elim r
-        [ Err kind ↦ Ok ([], Some (progress.number + 1, Bad kind))
-        | Ok done ↦ (replayed done.1 (room - size_of line) rest >>= λ more. Ok (after_text done.0 more)) ])
+    one_line progress line.0 >>= λ r. elim r [
+      | Err kind ↦ Ok ([], Some (progress.number + 1, Bad kind))
+      | Ok done ↦ (replayed done.1 (room - size_of line) rest >>= λ more. Ok (after_text done.0 more))
+    ])
 
 -- a whole text; one without a line lacks its header
 abbrev pub replay_of : List ℕ → Result (List ℕ × Option (ℕ × LineFault)) Stop

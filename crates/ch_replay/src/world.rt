@@ -104,7 +104,12 @@ impl World {
 
     /// An answer, and the entries that the notes of what was done stand for.
     #[tactic(auto, using(crate::proofs::Worlds::entries_step))]
-    fn entries(&self, alloc: Global, first: Entry, notes: &[Note]) -> Result<Vec<Entry>, OutOfMemory>
+    fn entries(
+        &self,
+        alloc: Global,
+        first: Entry,
+        notes: &[Note],
+    ) -> Result<Vec<Entry>, OutOfMemory>
         ensures { IfOk result (λ es. es.items ≡ first ∷ entries_of self.now notes.now) }
     {
         let mut entries = Vec::new(alloc);
@@ -203,11 +208,7 @@ fn declared(alloc: Global, what: What) -> Option<World>
 }
 
 /// What a line does: the node's declaration makes the world, and each event line is a step of it.
-pub(crate) fn step(
-    alloc: Global,
-    world: &mut Option<World>,
-    line: Line,
-) -> Result<Vec<Entry>, Stop>
+pub(crate) fn step(alloc: Global, world: &mut Option<World>, line: Line) -> Result<Vec<Entry>, Stop>
     ensures { MatchResult result (λ es. world_step world.old line ≡ Ok (es.items, world.new)) (λ e. Stops e (world_step world.old line)) }
 {
     if world.is_none() {

@@ -1,5 +1,7 @@
-//! Rows of single calls of the upper crates: what a call answers, with values from outside.
+//! Rows of the upper crates: what a call answers, with values from outside.
 #![tactic(auto)]
 
 #[cfg(test)]
 mod journal;
+#[cfg(test)]
+mod replay;

@@ -7,7 +7,7 @@ abbrev pub invariant-pieces : goal.invariant-pieces
 invariant-pieces g l = record {
   small : length l.journal.items ≤ 16777217;
   taken : Taken (g.S.Source.left l.initial.source) (g.S.Source.left l.source) l.journal.items;
-  counted : g.S.Source.faults l.initial.source ≤ g.S.Source.faults l.source
+  counted : g.S.Source.faults l.initial.source ≤ g.S.Source.faults l.source;
 }
 
 abbrev pub decreases-pieces : goal.decreases-pieces

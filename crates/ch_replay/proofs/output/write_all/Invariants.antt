@@ -7,7 +7,7 @@ abbrev pub invariant-pieces : goal.invariant-pieces
 invariant-pieces g l = record {
   within : l.at ≤ length l.text;
   appended : Appended (take l.at l.text) (g.K.Sink.held l.initial.sink) (g.K.Sink.held l.sink);
-  counted : g.K.Sink.faults l.initial.sink ≤ g.K.Sink.faults l.sink
+  counted : g.K.Sink.faults l.initial.sink ≤ g.K.Sink.faults l.sink;
 }
 
 abbrev pub decreases-pieces : goal.decreases-pieces

@@ -8,7 +8,7 @@ abbrev pub invariant-lines : goal.invariant-lines
 invariant-lines l = record {
   fresh : l.reading.refused ≡ None;
   few : l.reading.number + length l.rest ≤ 16777217;
-  whole : onto l.text.items (replayed (progress_of l.reading l.world) l.room (raw_lines l.rest)) ≡ replay_of l.journal
+  whole : onto l.text.items (replayed (progress_of l.reading l.world) l.room (raw_lines l.rest)) ≡ replay_of l.journal;
 }
 
 abbrev pub decreases-lines : goal.decreases-lines

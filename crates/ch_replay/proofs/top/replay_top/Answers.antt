@@ -13,17 +13,17 @@ log_journal-requires g c = omega (arith, ap length c.as_slice.ensures.value, c.i
 pub returns-in-Err-Worn-clause-ends : goal.returns-in-Err-Worn-clause-ends
 returns-in-Err-Worn-clause-ends g c =
     ends_worn (g.S.Source.left c.args.source.now) (g.S.Source.left c.take_journal.new.source) (g.K.Sink.held c.args.sink.now) c.in-Ok.journal.items c.in-Ok.ensures.taken
-      (ap replay_of (sym c.as_slice.ensures.value) ∙ subst (λ (s : Stop). Stops s (replay_of c.as_slice.result.now)) c.in-Err-Worn.field-0-is c.in-Err-Worn.ensures)
+    (ap replay_of (sym c.as_slice.ensures.value) ∙ subst (λ (s : Stop). Stops s (replay_of c.as_slice.result.now)) c.in-Err-Worn.field-0-is c.in-Err-Worn.ensures)
 
 pub returns-in-Ok-write_all-clause-ends : goal.returns-in-Ok-write_all-clause-ends
 returns-in-Ok-write_all-clause-ends g c =
     subst (λ (s : Status). Ends s (g.S.Source.left c.args.source.now) (g.S.Source.left c.take_journal.new.source) (g.K.Sink.held c.args.sink.now) (g.K.Sink.held c.write_all.new.sink)) (sym c.status_of.ensures)
-      (ends_written (g.S.Source.left c.args.source.now) (g.S.Source.left c.take_journal.new.source) (g.K.Sink.held c.args.sink.now) (g.K.Sink.held c.write_all.new.sink) c.in-Ok.journal.items c.in-Ok-log_journal.logged.text.items c.in-Ok-log_journal.logged.fault c.in-Ok.ensures.taken
-        (ap replay_of (sym c.as_slice.ensures.value) ∙ c.in-Ok-log_journal.ensures)
-        (subst (λ (t : List ℕ). Appended t (g.K.Sink.held c.args.sink.now) (g.K.Sink.held c.write_all.new.sink)) c.as_slice-2.ensures.value c.in-Ok-write_all.ensures.ok))
+    (ends_written (g.S.Source.left c.args.source.now) (g.S.Source.left c.take_journal.new.source) (g.K.Sink.held c.args.sink.now) (g.K.Sink.held c.write_all.new.sink) c.in-Ok.journal.items c.in-Ok-log_journal.logged.text.items c.in-Ok-log_journal.logged.fault c.in-Ok.ensures.taken
+    (ap replay_of (sym c.as_slice.ensures.value) ∙ c.in-Ok-log_journal.ensures)
+    (subst (λ (t : List ℕ). Appended t (g.K.Sink.held c.args.sink.now) (g.K.Sink.held c.write_all.new.sink)) c.as_slice-2.ensures.value c.in-Ok-write_all.ensures.ok))
 
 pub returns-clause-ends : goal.returns-clause-ends
 returns-clause-ends g c =
     ends_in_part (g.S.Source.left c.args.source.now) (g.S.Source.left c.take_journal.new.source) (g.K.Sink.held c.args.sink.now) (g.K.Sink.held c.write_all.new.sink) c.in-Ok.journal.items c.in-Ok-log_journal.logged.text.items c.in-Ok-log_journal.logged.fault c.in-Ok.ensures.taken
-      (ap replay_of (sym c.as_slice.ensures.value) ∙ c.in-Ok-log_journal.ensures)
-      (subst (λ (t : List ℕ). AppendedSome t (g.K.Sink.held c.args.sink.now) (g.K.Sink.held c.write_all.new.sink)) c.as_slice-2.ensures.value c.in-Err.ensures.err)
+    (ap replay_of (sym c.as_slice.ensures.value) ∙ c.in-Ok-log_journal.ensures)
+    (subst (λ (t : List ℕ). AppendedSome t (g.K.Sink.held c.args.sink.now) (g.K.Sink.held c.write_all.new.sink)) c.as_slice-2.ensures.value c.in-Err.ensures.err)
