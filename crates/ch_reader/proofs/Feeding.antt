@@ -10,10 +10,10 @@ use Rattle.ch_reader.specs.declared.glance.Glance.TheVariants.{Settled, Body}
 use Rattle.ch_reader.specs.declared.glance.Opened.{Opened}
 use Rattle.ch_reader.specs.Reading.{header_size, glance_at, rest_reading, reading}
 use Rattle.ch_reader.specs.States.{State, Waits, state_of, fed, held}
-use Rattle.ch_reader.specs.Keeping.{Completes, HasRoom, Continues, IsUnfinishedSplit, Keeps}
+use Rattle.ch_reader.specs.Keeping.{Completes, HasRoom, Continues, IsUnfinishedSplit, Keeps, IsMissing, KeepsMissing}
 use Rattle.ch_reader.proofs.Bodies.{at, pair}
 use Rattle.ch_reader.proofs.Headers.{size_bounds, size_front, size_of_front, glance_short, glance_of_front}
-use Rattle.ch_reader.proofs.Readings.{read_by, reading_by, unsettled_short, unfinished_is_all, body_is_short, IsHeld, is_held, unfinished_is_held, reads_within}
+use Rattle.ch_reader.proofs.Readings.{read_by, reading_by, unsettled_short, unfinished_is_all, body_is_short, IsHeld, is_held, unfinished_is_held, reads_within, body_short}
 
 -- the bytes are the words at their front and this rest
 pub record Splits (e : Expected) (bytes words rest : List ℕ) : Type 0 where
@@ -217,3 +217,78 @@ goes_on e seen now body rest piece after front n k p q c =
 -- what a reader that waits is
 pub waits : (e : Expected) (words body : List ℕ) (front : Front) (state : State) → front ≡ Unfinished → state_of e (words ++ body) front ≡ state → Waits e (words ++ body) ≡ state
 waits e words body front state is h = sym (ap (state_of e (words ++ body)) is) ∙ h
+
+abbrev pub at_state : ℕ → State → ℕ × State
+at_state n state = (n, state)
+
+-- ---- a piece within a body
+
+-- behind whole words nothing of a piece is of the words
+stays_whole : (e : Expected) (words piece : List ℕ) → length words ≤ header_size e words → header_size e words ≤ length words → Completes e words piece words 0
+stays_whole e words piece low high =
+    let four : 4 ≤ length words = omega (arith, (size_bounds e words).0) in
+    let size : header_size e (words ++ piece) ≡ length words = size_front e words piece four ∙ omega arith in
+    record {
+      within = omega arith;
+      bytes = sym (append-nil words);
+      front = sym (take_at words piece (length words) refl) ∙ ap (λ (k : ℕ). take k (words ++ piece)) (sym size);
+    }
+
+settled_isnt_body : (front : Front) (o : Opened) (count : ℕ) → Settled front ≡ Body o count → ⊥
+settled_isnt_body front o count x = cc
+
+within_by : (e : Expected) (words body piece : List ℕ) (missing : ℕ) (g : Glance) → glance_at e words ≡ g → length piece < missing → IsMissing g body missing
+    → (header_size e words ≤ length words) × Continues (glance_at e words) body (drop 0 piece) Unfinished (length piece) (body ++ piece)
+within_by e words body piece missing (Settled front) h lt m = absurd (omega arith)
+within_by e words body piece missing (Body o count) h lt m =
+    let sum : length body + missing ≡ count = m (omega arith) in
+    let short : rest_reading (Body o count) (body ++ piece) ≡ at Unfinished (length body + length piece) =
+    body_short o count (body ++ piece) (omega (arith, length-append body piece)) ∙ ap (at Unfinished) (length-append body piece) in (
+      whole (cases_lt (length words) (header_size e words)),
+      subst (λ (x : Glance). Continues x body piece Unfinished (length piece) (body ++ piece)) (sym h) (sym short, λ _. refl),
+    )
+  where
+    whole : (length words < header_size e words) ⊎ (header_size e words ≤ length words) → header_size e words ≤ length words
+    whole (inl lt) = absurd (settled_isnt_body Unfinished o count (sym (glance_short e words lt) ∙ h))
+    whole (inr le) = le
+
+-- a piece within a body
+pub within_body : (e : Expected) (words body piece : List ℕ) (missing : ℕ) → IsUnfinishedSplit e words body → KeepsMissing e words body missing → length piece < missing
+    → (at_state (length piece) (Waits e (words ++ (body ++ piece))) ≡ fed (Waits e (words ++ body)) piece) × IsUnfinishedSplit e words (body ++ piece)
+within_body e words body piece missing kept m lt =
+    let w = within_by e words body piece missing (glance_at e words) refl lt (m (omega arith)) in
+    let c = stays_whole e words piece (words_low e words body kept) w.0 in (
+      ap (λ (n : ℕ). at_state n (Waits e (words ++ (body ++ piece)))) (omega arith) ∙ feeds e words body piece words (body ++ piece) Unfinished 0 (length piece) kept c w.1,
+      keeps e words body piece words (body ++ piece) Unfinished 0 (length piece) kept c w.1,
+    )
+
+missing_less : (g : Glance) (body piece : List ℕ) (missing : ℕ) → length piece < missing → IsMissing g body missing → IsMissing g (body ++ piece) (missing - length piece)
+missing_less (Settled front) body piece missing lt m = absurd (omega arith)
+missing_less (Body o count) body piece missing lt m = λ _. let sum = m (omega arith) in omega (arith, length-append body piece)
+
+-- what is missing after such a piece
+pub keeps_missing : (e : Expected) (words body piece : List ℕ) (missing : ℕ) → KeepsMissing e words body missing → length piece < missing → KeepsMissing e words (body ++ piece) (missing - length piece)
+keeps_missing e words body piece missing m lt = λ _. missing_less (glance_at e words) body piece missing lt (m (omega arith))
+
+-- the parts of a reader after such a piece
+pub keeps_within : (e : Expected) (words body piece now : List ℕ) (front : Front) (missing : ℕ) → front ≡ Unfinished → now ≡ body ++ piece → Keeps e words body front → KeepsMissing e words body missing → length piece < missing
+    → KeepsMissing e words now (missing - length piece) × Keeps e words now front
+keeps_within e words body piece now front missing is same k m lt =
+    let w = within_body e words body piece missing (unfinished_parts e words body front is k) m lt in (
+      subst (λ (b : List ℕ). KeepsMissing e words b (missing - length piece)) (sym same) (keeps_missing e words body piece missing m lt),
+      subst (Keeps e words now) (sym is) (subst (IsUnfinishedSplit e words) (sym same) w.1),
+    )
+
+-- the answer of a feed of such a piece, and the reader after it
+pub feeds_within : (e : Expected) (words body piece now : List ℕ) (front : Front) (missing : ℕ) (state : State) → front ≡ Unfinished → now ≡ body ++ piece → Keeps e words body front → KeepsMissing e words body missing → length piece < missing
+    → state_of e (words ++ body) front ≡ state → at_state (length piece) (state_of e (words ++ now) front) ≡ fed state piece
+feeds_within e words body piece now front missing state is same k m lt view =
+    let w = within_body e words body piece missing (unfinished_parts e words body front is k) m lt in
+    ap (λ (f : Front). at_state (length piece) (state_of e (words ++ now) f)) is
+    ∙ ap (λ (b : List ℕ). at_state (length piece) (Waits e (words ++ b))) same
+    ∙ w.0
+    ∙ ap (λ (s : State). fed s piece) (waits e words body front state is view)
+
+-- what is missing of the same words and body
+pub missing_at : (e : Expected) (seen words text body : List ℕ) (missing : ℕ) → seen ≡ words → text ≡ body → KeepsMissing e seen text missing → KeepsMissing e words body missing
+missing_at e seen words text body missing p q m = subst (λ (b : List ℕ). KeepsMissing e words b missing) q (subst (λ (w : List ℕ). KeepsMissing e w text missing) p m)

@@ -1,12 +1,12 @@
 -- What a reader keeps of its parts, and how words and body go on.
-use Rattle.std.specs.Prelude.{◌≡◌, ℕ, ◌+◌, ◌≤◌, List, ◌++◌, length, take}
+use Rattle.std.specs.Prelude.{◌≡◌, ℕ, ◌+◌, ◌<◌, ◌≤◌, List, ◌++◌, length, take}
 use Rattle.ch_reader.specs.declared.item.Expected.{Expected}
 use Rattle.ch_reader.specs.declared.item.Front.{Front}
 use Rattle.ch_reader.specs.declared.item.Front.TheVariants.{Unfinished, Whole, Refused}
 use Rattle.ch_reader.specs.declared.glance.Glance.{Glance}
 use Rattle.ch_reader.specs.declared.glance.Glance.TheVariants.{Settled, Body}
 use Rattle.ch_reader.specs.Items.{item_spelling}
-use Rattle.ch_reader.specs.Reading.{header_size, reading, rest_reading}
+use Rattle.ch_reader.specs.Reading.{header_size, glance_at, reading, rest_reading}
 
 -- The words go on by the first so many bytes of a piece, and are then the words at the front of all.
 pub record Completes (e : Expected) (words piece now : List ℕ) (count : ℕ) : Type 0 where
@@ -35,3 +35,11 @@ abbrev pub Keeps : Expected → List ℕ → List ℕ → Front → Type 0
 Keeps e words body Unfinished = IsUnfinishedSplit e words body
 Keeps e words body (Whole item) = length (item_spelling item) ≤ 65544
 Keeps e words body (Refused error) = Unit {0}
+
+-- So many bytes of a body are to come: none, or what the words' count says beyond the body so far.
+abbrev pub IsMissing : Glance → List ℕ → ℕ → Type 0
+IsMissing (Settled front) body missing = missing ≡ 0
+IsMissing (Body opened count) body missing = 0 < missing → length body + missing ≡ count
+
+abbrev pub KeepsMissing : Expected → List ℕ → List ℕ → ℕ → Type 0
+KeepsMissing e words body missing = 0 < missing → IsMissing (glance_at e words) body missing

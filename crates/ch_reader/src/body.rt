@@ -5,7 +5,7 @@
 ghost use Rattle.std.specs.Prelude.{◌≡◌, ◌≤◌, ◌+◌, ◌++◌, length, IfOk, OnErr};
 ghost use Rattle.ch_base.specs.Addresses.{read_address};
 ghost use Rattle.ch_reader.specs.Reading.{rest_reading, body_front, request_front as request_front_of, glance_at};
-ghost use Rattle.ch_reader.specs.Keeping.{Continues, HasRoom};
+ghost use Rattle.ch_reader.specs.Keeping.{Continues, HasRoom, KeepsMissing};
 
 use crate::glance::{Glance, Opened, look_at};
 use crate::item::{Expected, Front, Item, ReaderError};
@@ -29,6 +29,16 @@ pub(crate) fn continued(
     match look_at(expected, words) {
         Glance::Settled(front) => Ok((front, 0)),
         Glance::Body(opened, count) => filled(opened, count, body, rest),
+    }
+}
+
+/// How many bytes of the body are to come, as far as the words tell.
+pub(crate) fn missing(expected: Expected, words: &[u8], body: &[u8]) -> usize
+    ensures { KeepsMissing expected words.now body.now result }
+{
+    match look_at(expected, words) {
+        Glance::Settled(_) => 0,
+        Glance::Body(_, count) => count.saturating_sub(body.len()),
     }
 }
 

@@ -5,7 +5,7 @@
 ghost use Rattle.std.specs.Prelude.{◌≡◌, ◌≤◌, length, IfOk, OnErr, IsOk};
 ghost use Rattle.ch_reader.specs.States.{State, start, fed, taken, held};
 
-use crate::body::continued;
+use crate::body::{continued, missing};
 use crate::item::{Expected, Front, Item, ReaderError, Role};
 use crate::words::Words;
 use ch_base::OutOfMemory;
@@ -23,6 +23,8 @@ pub struct Reader {
     expected: Expected,
     words: Words,
     body: Vec<u8>,
+    /// How many bytes of the body are to come, as far as the words tell.
+    missing: usize,
     front: Front,
 }
 
@@ -33,11 +35,11 @@ impl Model for Reader {
 
     ghost use Rattle.std.specs.Prelude.{◌++◌};
     ghost use Rattle.ch_reader.specs.States.{state_of};
-    ghost use Rattle.ch_reader.specs.Keeping.{Keeps};
+    ghost use Rattle.ch_reader.specs.Keeping.{Keeps, KeepsMissing};
 
     ghost view = { λ r. state_of r.expected (r.words ++ r.body.items) r.front };
 
-    ghost invariant = { λ r. Keeps r.expected r.words r.body.items r.front };
+    ghost invariant = { λ r. KeepsMissing r.expected r.words r.body.items r.missing × Keeps r.expected r.words r.body.items r.front };
 }
 
 impl Reader {
@@ -54,6 +56,7 @@ impl Reader {
             expected,
             words: Words::new(),
             body: Vec::new(alloc),
+            missing: 0,
             front: Front::Unfinished,
         })
     }
@@ -70,6 +73,11 @@ impl Reader {
             Front::Unfinished => {}
             _ => return Ok(0),
         }
+        if piece.len() < self.missing {
+            self.body.extend_from_slice(piece)?;
+            self.missing -= piece.len();
+            return Ok(piece.len());
+        }
         let (words, count) = self.words.completed(self.expected, piece);
         let (front, more) = continued(
             self.expected,
@@ -77,6 +85,7 @@ impl Reader {
             &mut self.body,
             &piece[count..],
         )?;
+        self.missing = missing(self.expected, words.as_slice(), self.body.as_slice());
         self.words = words;
         self.front = front;
         Ok(count + more)
@@ -88,6 +97,9 @@ impl Reader {
     pub fn take(&mut self) -> Result<Option<Item>, ReaderError>
         ensures { (result, self.new) ≡ taken self.old }
     {
+        if let Front::Unfinished = self.front {
+            return Ok(None);
+        }
         match mem::replace(&mut self.front, Front::Unfinished) {
             Front::Unfinished => Ok(None),
             Front::Refused(error) => {
@@ -98,6 +110,7 @@ impl Reader {
                 self.expected = Expected::Frame;
                 self.words = Words::new();
                 self.body.clear();
+                self.missing = 0;
                 Ok(Some(item))
             }
         }

@@ -22,13 +22,25 @@ struct Counts {
     bytes: u64,
 }
 
+/// Why a run stops.
+#[derive(Clone, Copy, Debug)]
+enum Trouble {
+    OutOfMemory,
+    Refused,
+    NothingTaken,
+}
+
+fn stopped(trouble: Trouble) -> Error {
+    anyhow!("{trouble:?}")
+}
+
+fn no_memory(_e: OutOfMemory) -> Trouble {
+    Trouble::OutOfMemory
+}
+
 fn number(word: Option<String>) -> Result<usize> {
     let word = word.context("three numbers are needed")?;
     word.as_str().parse::<usize>().context("not a number")
-}
-
-fn no_memory(_e: OutOfMemory) -> Error {
-    anyhow!("out of memory")
 }
 
 /// Frames of this size, about `BLOCK_BYTES` in all.
@@ -43,7 +55,9 @@ fn block(alloc: Global, frame: usize) -> Result<Vec<u8>>
     ensure!(payload.len() <= 65_536, "a payload is too long");
     let frame = Frame::Data(1024, Text::from_vec(payload));
     let mut one = Vec::new(alloc);
-    put_frame(&frame, &mut one).map_err(no_memory)?;
+    put_frame(&frame, &mut one)
+        .map_err(no_memory)
+        .map_err(stopped)?;
     let mut all = Vec::new(alloc);
     all.extend_from_slice(one.as_slice())?;
     for _ in 0..BLOCK_BYTES {
@@ -56,7 +70,7 @@ fn block(alloc: Global, frame: usize) -> Result<Vec<u8>>
 }
 
 /// Feeds a piece and takes each item that is whole.
-fn drain(reader: &mut Reader, piece: &[u8], counts: &mut Counts) -> Result<()> {
+fn drain(reader: &mut Reader, piece: &[u8], counts: &mut Counts) -> Result<(), Trouble> {
     let mut done = 0;
     for _ in 0..=piece.len() {
         if done >= piece.len() {
@@ -66,10 +80,10 @@ fn drain(reader: &mut Reader, piece: &[u8], counts: &mut Counts) -> Result<()> {
         match reader.take() {
             Ok(None) => {}
             Ok(Some(item)) => count(counts, &item),
-            Err(_) => return Err(anyhow!("refused")),
+            Err(_) => return Err(Trouble::Refused),
         }
     }
-    Err(anyhow!("nothing was taken"))
+    Err(Trouble::NothingTaken)
 }
 
 fn count(counts: &mut Counts, item: &Item) {
@@ -91,19 +105,21 @@ fn main(rt: HostRuntime) -> Result<()> {
     );
     ensure!(piece > 0, "a piece has a byte at least");
     let block = block(rt.alloc(), frame)?;
-    let mut reader = Reader::new(rt.alloc(), Role::Opener).map_err(no_memory)?;
+    let mut reader = Reader::new(rt.alloc(), Role::Opener)
+        .map_err(no_memory)
+        .map_err(stopped)?;
     let mut counts = Counts {
         frames: 0,
         bytes: 0,
     };
-    drain(&mut reader, b"\0\0\0\0", &mut counts)?;
+    drain(&mut reader, b"\0\0\0\0", &mut counts).map_err(stopped)?;
     let mut fed = 0usize;
     for _ in 0..total {
         if fed >= total {
             break;
         }
         for part in block.as_slice().chunks(piece) {
-            drain(&mut reader, part, &mut counts)?;
+            drain(&mut reader, part, &mut counts).map_err(stopped)?;
         }
         fed = fed.saturating_add(block.len());
     }
