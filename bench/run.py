@@ -9,7 +9,6 @@ than what this script itself has, which is printed first.
 """
 import os
 import random
-import resource
 import subprocess
 import sys
 import time
@@ -35,7 +34,6 @@ def journal(lines=None, size=None):
 
 def run(program, data):
     """Seconds, and the peak memory in bytes."""
-    before = resource.getrusage(resource.RUSAGE_CHILDREN)
     start = time.monotonic()
     child = subprocess.Popen([program, "run"], stdin=subprocess.PIPE, stdout=subprocess.DEVNULL)
     child.stdin.write(data)
