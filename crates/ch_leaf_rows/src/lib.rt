@@ -1,6 +1,10 @@
 //! Rows of single calls of the leaf crates: what a call answers, with values from outside.
 #![tactic(auto)]
 
+mod ender;
+
+pub use ender::{Ender, Enders};
+
 #[cfg(test)]
 mod base;
 #[cfg(test)]
