@@ -2,9 +2,10 @@
 """How many bytes the reader takes in a second of processor time, by the size of frames and of pieces.
 
 First prove and build the program: `rt run` in crates/reader_bench. Then `bench/reader.py [MIB]`
-feeds 256 MiB (or MIB) of frames of 64 and of 60,000 bytes in pieces of 1, 64, 4,096 and 65,536
-bytes, and prints a line for each, and for each size of frames the ratio of the fastest to the
-slowest for pieces from 64 up. It ends with status 1 where a ratio is over 4.
+makes 256 MiB (or MIB) of frames of 64 and of 60,000 bytes, feeds them in pieces of 1, 64, 4,096 and
+65,536 bytes, and prints a line for each, and for each size of frames the ratio of the fastest to the
+slowest for pieces from 64 up. What making the frames takes is left out: it is the time of feeding
+them three times less that of feeding them once. It ends with status 1 where a ratio is over 4.
 """
 import pathlib
 import resource
@@ -22,11 +23,18 @@ def processor_seconds():
     return used.ru_utime + used.ru_stime
 
 
-def rate(*words):
-    """The bytes that one run fed, for each second of its processor time."""
+def run(*words):
+    """The bytes that one run fed, and its processor time."""
     began = processor_seconds()
     done = subprocess.run([PROGRAM, *map(str, words)], check=True, capture_output=True, text=True)
-    return int(done.stdout.split()[0]) / (processor_seconds() - began)
+    return int(done.stdout.split()[0]), processor_seconds() - began
+
+
+def rate(frame, piece, kib):
+    """The bytes that are fed for each second of processor time."""
+    once, seconds_once = run(frame, piece, kib, 1)
+    thrice, seconds_thrice = run(frame, piece, kib, 3)
+    return (thrice - once) / (seconds_thrice - seconds_once)
 
 
 def main():

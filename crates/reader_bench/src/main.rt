@@ -1,6 +1,7 @@
 //! Feeds a reader with frames of one size in pieces of one size, to time it.
 //!
-//! Its words are the bytes of a frame (8 to 65,544), the bytes of a piece, and how many KiB are fed.
+//! Its words are the bytes of a frame (8 to 65,544), the bytes of a piece, how many KiB of frames are
+//! made, and how often these are fed.
 #![tactic(auto)]
 
 ghost use Rattle.std.specs.Prelude.{◌≤◌, ◌+◌, ◌<◌, length, IfOk};
@@ -11,9 +12,6 @@ use ch_reader::{Item, Reader, Role};
 use ch_wire::{Frame, put_frame};
 use std::alloc::Global;
 use std::env;
-
-/// The bytes that are fed again and again have about this size.
-const BLOCK_BYTES: usize = 1_048_576;
 
 /// What was handed out.
 #[derive(Drop)]
@@ -39,12 +37,12 @@ fn no_memory(_e: OutOfMemory) -> Trouble {
 }
 
 fn number(word: Option<String>) -> Result<usize> {
-    let word = word.context("three numbers are needed")?;
+    let word = word.context("four numbers are needed")?;
     word.as_str().parse::<usize>().context("not a number")
 }
 
-/// Frames of this size, about `BLOCK_BYTES` in all.
-fn block(alloc: Global, frame: usize) -> Result<Vec<u8>>
+/// Frames of this size, at least so many bytes in all.
+fn block(alloc: Global, frame: usize, size: usize) -> Result<Vec<u8>>
     requires low { 8 ≤ frame }
     requires high { frame ≤ 65544 }
 {
@@ -60,8 +58,8 @@ fn block(alloc: Global, frame: usize) -> Result<Vec<u8>>
         .map_err(stopped)?;
     let mut all = Vec::new(alloc);
     all.extend_from_slice(one.as_slice())?;
-    for _ in 0..BLOCK_BYTES {
-        if all.len() >= BLOCK_BYTES {
+    for _ in 0..size {
+        if all.len() >= size {
             break;
         }
         all.extend_from_slice(one.as_slice())?;
@@ -98,13 +96,14 @@ fn main(rt: HostRuntime) -> Result<()> {
     let _program = words.next();
     let frame = number(words.next())?;
     let piece = number(words.next())?;
-    let total = number(words.next())?.saturating_mul(1024);
+    let size = number(words.next())?.saturating_mul(1024);
+    let times = number(words.next())?;
     ensure!(
         frame >= 8 && frame <= 65_544,
         "a frame has 8 to 65,544 bytes"
     );
     ensure!(piece > 0, "a piece has a byte at least");
-    let block = block(rt.alloc(), frame)?;
+    let block = block(rt.alloc(), frame, size)?;
     let mut reader = Reader::new(rt.alloc(), Role::Opener)
         .map_err(no_memory)
         .map_err(stopped)?;
@@ -114,10 +113,7 @@ fn main(rt: HostRuntime) -> Result<()> {
     };
     drain(&mut reader, b"\0\0\0\0", &mut counts).map_err(stopped)?;
     let mut fed = 0usize;
-    for _ in 0..total {
-        if fed >= total {
-            break;
-        }
+    for _ in 0..times {
         for part in block.as_slice().chunks(piece) {
             drain(&mut reader, part, &mut counts).map_err(stopped)?;
         }
