@@ -66,29 +66,22 @@ fn lengths_of_addresses(rt: HostRuntime) -> Result<(), Fail> {
 }
 
 #[test]
-fn accepted_addresses(rt: HostRuntime) {
+fn accepted_addresses(rt: HostRuntime) -> Result<(), Fail> {
     for (text, host, port, id) in ACCEPTED {
-        match Address::read(rt.alloc(), text) {
-            Err(_) => assert!(rt; false),
-            Ok(address) => {
-                assert_eq!(rt; address.host.as_slice(), host);
-                assert_eq!(rt; address.port, port);
-                assert_eq!(rt; address.id, id);
-                match (address.text(), address.copy()) {
-                    (Ok(spelled), Ok(copy)) => {
-                        assert_eq!(rt; spelled.as_slice(), text);
-                        assert_eq!(rt; copy.compare(&address), Ordering::Equal);
-                    }
-                    _ => assert!(rt; false),
-                }
-            }
-        }
+        let address = Address::read(rt.alloc(), text)?;
+        assert_eq!(rt; address.host.as_slice(), host);
+        assert_eq!(rt; address.port, port);
+        assert_eq!(rt; address.id, id);
+        assert_eq!(rt; address.text()?.as_slice(), text);
+        let copy = address.copy()?;
+        assert_eq!(rt; copy.compare(&address), Ordering::Equal);
     }
+    Ok(())
 }
 
 /// The order is that of the texts: `9` is greater than `1`, and `:` than any digit.
 #[test]
-fn order_of_addresses(rt: HostRuntime) {
+fn order_of_addresses(rt: HostRuntime) -> Result<(), Fail> {
     let rows = [
         (b"h:9:0".as_slice(), b"h:10:0".as_slice(), Ordering::Greater),
         (b"h:1:0", b"h:1:1", Ordering::Less),
@@ -98,15 +91,11 @@ fn order_of_addresses(rt: HostRuntime) {
         (b"h:1:0", b"h:1:0", Ordering::Equal),
     ];
     for (left, right, order) in rows {
-        let read = (
-            Address::read(rt.alloc(), left),
-            Address::read(rt.alloc(), right),
-        );
-        match read {
-            (Ok(a), Ok(b)) => assert_eq!(rt; a.compare(&b), order),
-            _ => assert!(rt; false),
-        }
+        let left = Address::read(rt.alloc(), left)?;
+        let right = Address::read(rt.alloc(), right)?;
+        assert_eq!(rt; left.compare(&right), order);
     }
+    Ok(())
 }
 
 #[test]
@@ -132,22 +121,23 @@ fn numbers(rt: HostRuntime) {
 #[test]
 fn copies_of_events(rt: HostRuntime) -> Result<(), Fail> {
     let payload = Text::from_vec(Vec::from_slice(rt.alloc(), b"hi")?);
-    match (Event::Received { conn: 7, payload }).copy() {
-        Ok(Event::Received { conn, payload }) => {
-            assert_eq!(rt; conn, 7);
+    let event = Event::Received { conn: 7, payload };
+    let copied = event.copy()?;
+    match &copied {
+        Event::Received { conn, payload } => {
+            assert_eq!(rt; *conn, 7);
             assert_eq!(rt; payload.as_slice(), b"hi".as_slice());
         }
         _ => assert!(rt; false),
     }
-    match (Event::ConnectionLost {
-        peer: Address::read(rt.alloc(), b"h:1:0")?,
-        why: Why::NodeDown,
-    })
-    .copy()
-    {
-        Ok(Event::ConnectionLost { peer, why }) => {
+    let peer = Address::read(rt.alloc(), b"h:1:0")?;
+    let why = Why::NodeDown;
+    let event = Event::ConnectionLost { peer, why };
+    let copied = event.copy()?;
+    match &copied {
+        Event::ConnectionLost { peer, why } => {
             assert_eq!(rt; peer.port, 1);
-            assert_eq!(rt; why, Why::NodeDown);
+            assert_eq!(rt; *why, Why::NodeDown);
         }
         _ => assert!(rt; false),
     }

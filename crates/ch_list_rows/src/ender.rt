@@ -11,7 +11,7 @@ pub struct Ender {
 }
 
 impl Actor for Ender {
-    ghost use Rattle.ch_leaf_rows.specs.Ender.{ender_answer, ender_after, ender_rests, ender_wakes};
+    ghost use Rattle.ch_list_rows.specs.Ender.{ender_answer, ender_after, ender_rests, ender_wakes};
 
     ghost answer = { ender_answer };
 

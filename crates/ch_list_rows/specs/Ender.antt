@@ -5,7 +5,7 @@ use Rattle.ch_static.specs.declared.actor.Reply.{Reply}
 use Rattle.ch_static.specs.declared.actor.Reply.TheVariants as replies
 use Rattle.ch_static.specs.declared.actor.Turn.{Turn}
 use Rattle.ch_static.specs.declared.actor.Turn.TheVariants as turns
-use Rattle.ch_leaf_rows.specs.declared.ender.Ender.{Ender}
+use Rattle.ch_list_rows.specs.declared.ender.Ender.{Ender}
 
 -- at rest until it is woken, or not at all
 abbrev pub ends_at : Bool → Reply → Turn
