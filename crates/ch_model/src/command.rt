@@ -1,50 +1,38 @@
-//! What a process asks of its node, and how that is refused.
+//! How what a process asks of its node is refused.
 
-ghost use Rattle.std.specs.Prelude.{◌≡◌, IfOk};
+ghost use Rattle.std.specs.Prelude.{◌≡◌};
 ghost use Rattle.ch_model.specs.declared.command.CommandError.TheVariants as errors;
-ghost use Rattle.ch_model.specs.Node.{of_mail_error, of_stop};
+ghost use Rattle.ch_model.specs.Refusals.{of_mail_error, of_stop};
 
 use ch_base::{OutOfMemory, Stop};
-use ch_ident::{Message, Name, ProcessId};
 use ch_mail::MailError;
 use std::alloc::{AllocError, AllocFailed};
 
-/// One thing that a process asks for.
-#[derive(Debug, Drop)]
-pub enum Command {
-    /// A message is to go to a process.
-    Send { to: ProcessId, message: Message },
-    /// The first message of this mark is to be taken from the mailbox.
-    Receive { mark: Name },
-    /// The process ends by itself.
-    End,
-}
-
-impl Command {
-    /// An equal command.
-    pub fn copy(&self) -> Result<Command, OutOfMemory>
-        ensures { IfOk result (λ command. command ≡ self.now) }
-    {
-        Ok(match self {
-            Command::Send { to, message } => Command::Send {
-                to: to.copy()?,
-                message: message.copy()?,
-            },
-            Command::Receive { mark } => Command::Receive { mark: mark.copy()? },
-            Command::End => Command::End,
-        })
-    }
-}
-
-/// Why a command wasn't done.
+/// Why a command wasn't done. Where several hold, the first of the order in which a node tries them
+/// is told.
 #[derive(Clone, Copy, Debug, PartialEq, Eq)]
 pub enum CommandError {
-    /// The acting process, or the one sent to, wasn't made.
+    /// The acting process, or the process or port of the same node that is sent to, wasn't made.
     Unknown,
-    /// The acting process acts no more.
+    /// The acting process acts no more, or the node is shut.
     Dead,
+    /// The payload would have more than 65,536 bytes.
+    Long,
+    /// The link isn't up, and 4,096 counted payloads wait for it.
+    Full,
+    /// 65,535 connections were opened on the socket that is up or awaited, besides the one from node
+    /// to node.
+    Spent,
+    /// The name stands already.
+    Taken,
+    /// The name doesn't stand.
+    NoName,
+    /// No watch of the process is open under the reference.
+    NoRef,
     /// No such message waits.
     Empty,
+    /// A process that isn't doomed can't fall.
+    Hale,
     /// No memory was to be had.
     OutOfMemory,
     /// A count that the command would raise stands at its type's last value.
