@@ -3,3 +3,10 @@ pub mod Stages
 pub mod HostState
 pub mod NodeState
 pub mod WorldState
+pub mod Greater
+pub mod HostSteps
+pub mod HostWrites
+pub mod HostLinks
+pub mod HostItems
+pub mod HostCalls
+pub mod Host

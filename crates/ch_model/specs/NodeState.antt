@@ -1,5 +1,5 @@
 -- What a node keeps: its processes, what they watch and are named, whom they have sent to, and what has arrived.
-use Rattle.std.specs.Prelude.{ℕ, Bool, List, ◌×◌}
+use Rattle.std.specs.Prelude.{ℕ, Bool, List}
 use Rattle.ch_base.specs.declared.address.Address.{Address}
 use Rattle.ch_ident.specs.declared.identifier.Identifier.{Identifier}
 use Rattle.ch_ident.specs.declared.identifier.ProcessId.{ProcessId}
