@@ -1,5 +1,5 @@
 -- A cell: a host with its nodes, and what it makes of one local event.
-use Rattle.std.specs.Prelude.{ℕ, Bool, true, false, List, [], ◌∷◌, ◌×◌, map, find, Option, Some, None, Result, Ok, Err, if◌then◌else◌}
+use Rattle.std.specs.Prelude.{ℕ, Bool, true, false, List, [], ◌∷◌, map, find, Option, Some, None, Result, Ok, Err, if◌then◌else◌}
 use Rattle.ch_base.specs.declared.address.Address.{Address}
 use Rattle.ch_base.specs.declared.event.Room.{Room}
 use Rattle.ch_base.specs.declared.memory.Stop.{Stop}
@@ -139,5 +139,5 @@ opened_for (node ∷ rest) host = opened_for rest (host_open host node.0).1
 -- a host and its nodes, where nothing has happened; each node has the number of its endpoint, its unique number and its labels
 abbrev pub cell_new : List ℕ → ℕ → List (List ℕ) → List (ℕ × ℕ × List (List ℕ)) → Cell
 cell_new host port circle nodes =
-    let made = map (λ node. (node.0, node_new (record { host = host; port = port; id = node.0 }) node.1.0 node.1.1)) nodes in
+    let made = map (λ node. (node.0, node_new (record { host = host; port = port; id = node.0 }) node.1 node.2)) nodes in
     record { host = opened_for made (host_new host port circle); nodes = made }

@@ -67,7 +67,7 @@ first_of_hosts known (named ∷ rest) =
 abbrev pub cell_at : List Line → Address → Cell
 cell_at journal address =
     cell_new address.host address.port (map (λ named. named.address.host) (nodes_of journal))
-      (map (λ named. (named.address.id, named.unique, labels_of journal named.name)) (filter (λ named. same_host named.address address) (nodes_of journal)))
+    (map (λ named. (named.address.id, named.unique, labels_of journal named.name)) (filter (λ named. same_host named.address address) (nodes_of journal)))
 
 -- the world where nothing has happened
 abbrev pub world_new : List Line → World

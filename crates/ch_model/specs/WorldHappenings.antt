@@ -115,7 +115,7 @@ abbrev pub feeds : End → ℕ → WorldSocket → World → Answered
 feeds which count socket world =
     let bytes = take count (end_of which socket).unread in
     after_entry (entries.Fed socket.name which (length bytes))
-      (hands bytes (end_of which socket) (with_end_of socket.name which (λ end. record end { unread = drop count end.unread }) world))
+    (hands bytes (end_of which socket) (with_end_of socket.name which (λ end. record end { unread = drop count end.unread }) world))
 
 -- an end loses its socket
 abbrev pub loses : End → WorldSocket → World → Answered
