@@ -3,3 +3,15 @@ pub mod Stages
 pub mod HostState
 pub mod NodeState
 pub mod WorldState
+pub mod Fields
+pub mod FieldsOfNames
+pub mod LinesTold
+pub mod LinesDeclared
+pub mod LinesOfProcesses
+pub mod LinesOfPeers
+pub mod LinesOfSockets
+pub mod Lines
+pub mod LinesBuilt
+pub mod Journal
+pub mod SpellingFields
+pub mod Spelling
