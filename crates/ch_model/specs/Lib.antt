@@ -35,3 +35,15 @@ pub mod Timers
 pub mod WorldLines
 pub mod Settle
 pub mod World
+pub mod Fields
+pub mod FieldsOfNames
+pub mod LinesTold
+pub mod LinesDeclared
+pub mod LinesOfProcesses
+pub mod LinesOfPeers
+pub mod LinesOfSockets
+pub mod Lines
+pub mod LinesBuilt
+pub mod Journal
+pub mod SpellingFields
+pub mod Spelling
