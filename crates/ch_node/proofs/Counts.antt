@@ -3,7 +3,7 @@ use Rattle.std.proofs.Common.{◌≡◌, ℕ, Bool, true, false, cond, List, [],
 use Rattle.std.specs.Option.{option_map_or}
 use Rattle.std.specs.Map.{lookup}
 use Rattle.indexmap.specs.IndexMap.{insert_entry}
-use Rattle.ch_model.specs.Node.{next_index, with_said, same_pair}
+use Rattle.ch_one_node.specs.Node.{next_index, with_said, same_pair}
 
 abbrev pub or_none : Option ℕ → ℕ
 or_none None = 0

@@ -4,11 +4,11 @@ use Rattle.ch_ident.specs.declared.identifier.ProcessId.{ProcessId}
 use Rattle.ch_ident.specs.declared.message.Message.{Message}
 use Rattle.ch_mail.specs.Process.{Process}
 use Rattle.ch_mail.specs.Mail.{put_of}
-use Rattle.ch_model.specs.declared.note.Note.{Note}
-use Rattle.ch_model.specs.declared.note.Note.TheVariants.{Got}
-use Rattle.ch_model.specs.declared.command.CommandError.{CommandError}
-use Rattle.ch_model.specs.declared.command.CommandError.TheVariants.{OutOfMemory}
-use Rattle.ch_model.specs.Node.{Fails, mailed}
+use Rattle.ch_one_node.specs.declared.note.Note.{Note}
+use Rattle.ch_one_node.specs.declared.note.Note.TheVariants.{Got}
+use Rattle.ch_one_node.specs.declared.command.CommandError.{CommandError}
+use Rattle.ch_one_node.specs.declared.command.CommandError.TheVariants.{OutOfMemory}
+use Rattle.ch_one_node.specs.Node.{Fails, mailed}
 use Rattle.ch_node.specs.Kept.{Kept}
 
 -- what a call answered, seen by view, is what the model gives, unless memory ran out

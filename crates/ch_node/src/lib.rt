@@ -8,6 +8,6 @@ mod node;
 mod pairs;
 mod state;
 
-pub use ch_model::{Command, CommandError, Note};
+pub use ch_one_node::{Command, CommandError, Note};
 pub use node::Node;
 pub use state::Outcome;

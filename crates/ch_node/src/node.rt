@@ -2,15 +2,15 @@
 
 ghost use Rattle.std.specs.Prelude.{◌≡◌, true, false, IfOk, IfErr, IsErrOf, MatchResult, Ok, Err, option_copied};
 ghost use Rattle.ch_mail.specs.Mail.{life_of, waiting_of};
-ghost use Rattle.ch_model.specs.Node.{Fails, command_of, node_make, new_node, process_id};
-ghost use Rattle.ch_model.specs.declared.command.CommandError.TheVariants as errors;
+ghost use Rattle.ch_one_node.specs.Node.{Fails, command_of, node_make, new_node, process_id};
+ghost use Rattle.ch_one_node.specs.declared.command.CommandError.TheVariants as errors;
 ghost use Rattle.ch_node.specs.Calls.{Leaves, is_want_of};
 
 use crate::state::{Outcome, State};
 use ch_base::{Address, OutOfMemory};
 use ch_ident::ProcessId;
 use ch_mail::Life;
-use ch_model::{Command, CommandError};
+use ch_one_node::{Command, CommandError};
 use std::alloc::Global;
 use std::marker::Model;
 

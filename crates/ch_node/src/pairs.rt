@@ -1,7 +1,7 @@
 //! How many messages each pair of processes has said.
 
 ghost use Rattle.std.specs.Prelude.{◌≡◌, ℕ, List, [], OnOk, OnErr};
-ghost use Rattle.ch_model.specs.Node.{next_index, with_said};
+ghost use Rattle.ch_one_node.specs.Node.{next_index, with_said};
 
 use ch_base::OutOfMemory;
 use indexmap::IndexMap;

@@ -2,15 +2,15 @@
 
 ghost use Rattle.std.specs.Prelude.{◌≡◌, ℕ, ◌+◌, ◌<◌, ◌^◌, ◌++◌, ◌∷◌, [], true, false, IfOk, IfErr, OnOk, OnErr, MatchResult, Ok, Err, Some, None, option_copied};
 ghost use Rattle.ch_mail.specs.Mail.{life_of, waiting_of};
-ghost use Rattle.ch_model.specs.Node.{Fails, command_of, send_of, receive_of, finish_of, node_make, new_node, process_id, is_own, same_address, target_of, acting as acting_of, growing as growing_of};
-ghost use Rattle.ch_model.specs.declared.note.Note.TheVariants.{Made, Said, Got, Took, Over};
+ghost use Rattle.ch_one_node.specs.Node.{Fails, command_of, send_of, receive_of, finish_of, node_make, new_node, process_id, is_own, same_address, target_of, acting as acting_of, growing as growing_of};
+ghost use Rattle.ch_one_node.specs.declared.note.Note.TheVariants.{Made, Said, Got, Took, Over};
 ghost use Rattle.ch_node.specs.Calls.{Gives, KeepsBut, delivered_unless, got_unless};
 
 use crate::pairs::Pairs;
 use ch_base::{Address, OutOfMemory, Stop};
 use ch_ident::{Message, Name, ProcessId, Reason};
 use ch_mail::{Life, Mail};
-use ch_model::{Command, CommandError, Note};
+use ch_one_node::{Command, CommandError, Note};
 use std::alloc::Global;
 use std::marker::Model;
 
@@ -27,7 +27,7 @@ pub(crate) struct State {
 }
 
 impl Model for State {
-    ghost use Rattle.ch_model.specs.States.{NodeState};
+    ghost use Rattle.ch_one_node.specs.States.{NodeState};
 
     ghost Value = { NodeState };
 
@@ -41,7 +41,7 @@ fn is_same_address(a: &Address, b: &Address) -> bool
 }
 
 /// An index that isn't its type's last.
-#[tactic(auto, unfolding(ch_model::specs::Node::growing))]
+#[tactic(auto, unfolding(ch_one_node::specs::Node::growing))]
 fn growing(index: u64) -> Result<u64, CommandError>
     ensures is { Gives (λ n. n) result (growing_of index) }
     ensures small { IfOk result (λ n. n + 1 < 2 ^ 64) }
@@ -98,7 +98,7 @@ impl State {
     }
 
     /// The life of a process that acts.
-    #[tactic(auto, unfolding(ch_model::specs::Node::acting))]
+    #[tactic(auto, unfolding(ch_one_node::specs::Node::acting))]
     fn acting(&self, process: u32) -> Result<&Life, CommandError>
         ensures { Gives (λ life. life.now) result (acting_of (life_of self.now.mail process)) }
     {
@@ -110,7 +110,7 @@ impl State {
     }
 
     /// The life of the process that is sent to.
-    #[tactic(auto, unfolding(ch_model::specs::Node::target_of))]
+    #[tactic(auto, unfolding(ch_one_node::specs::Node::target_of))]
     fn target(&self, to: &ProcessId) -> Result<&Life, CommandError>
         ensures { Gives (λ life. life.now) result (target_of self.now to.now) }
     {
@@ -162,7 +162,7 @@ impl State {
     }
 
     /// A process is made.
-    #[tactic(auto, unfolding(ch_model::specs::Node::node_make))]
+    #[tactic(auto, unfolding(ch_one_node::specs::Node::node_make))]
     pub(crate) fn make(&mut self) -> Result<Outcome, CommandError>
         ensures does { MatchResult result (λ notes. node_make self.old ≡ Ok (notes.items, self.new)) (λ e. Fails e (node_make self.old)) }
         ensures err { IfErr result (λ e. KeepsBut self.old self.new e) }
@@ -176,7 +176,7 @@ impl State {
     }
 
     /// A process says a message to another.
-    #[tactic(auto, unfolding(ch_model::specs::Node::send_of, ch_model::specs::Node::delivered))]
+    #[tactic(auto, unfolding(ch_one_node::specs::Node::send_of, ch_one_node::specs::Node::delivered))]
     fn send(&mut self, by: u32, to: &ProcessId, message: Message) -> Result<Outcome, CommandError>
         ensures does { MatchResult result (λ notes. send_of self.old by to.now message ≡ Ok (notes.items, self.new)) (λ e. Fails e (send_of self.old by to.now message)) }
         ensures err { IfErr result (λ e. KeepsBut self.old self.new e) }
@@ -191,7 +191,7 @@ impl State {
     }
 
     /// A process takes the first message of a mark.
-    #[tactic(auto, unfolding(ch_model::specs::Node::receive_of))]
+    #[tactic(auto, unfolding(ch_one_node::specs::Node::receive_of))]
     fn receive(&mut self, by: u32, mark: &Name) -> Result<Outcome, CommandError>
         ensures does { MatchResult result (λ notes. receive_of self.old by mark.now ≡ Ok (notes.items, self.new)) (λ e. Fails e (receive_of self.old by mark.now)) }
         ensures err { IfErr result (λ e. KeepsBut self.old self.new e) }
@@ -207,7 +207,7 @@ impl State {
     }
 
     /// A process is over by itself.
-    #[tactic(auto, unfolding(ch_model::specs::Node::finish_of))]
+    #[tactic(auto, unfolding(ch_one_node::specs::Node::finish_of))]
     fn finish(&mut self, by: u32) -> Result<Outcome, CommandError>
         ensures does { MatchResult result (λ notes. finish_of self.old by ≡ Ok (notes.items, self.new)) (λ e. Fails e (finish_of self.old by)) }
         ensures err { IfErr result (λ e. KeepsBut self.old self.new e) }

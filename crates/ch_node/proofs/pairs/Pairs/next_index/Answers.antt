@@ -1,5 +1,5 @@
 use Rattle.std.proofs.Common.{ap, refl, ◌∙◌}
-use Rattle.ch_model.specs.Node.{next_index}
+use Rattle.ch_one_node.specs.Node.{next_index}
 use Rattle.ch_node.proofs.Counts.{found, or_none}
 use Rattle.ch_node.proofs.pairs.Pairs.next_index.Goals as goal
 

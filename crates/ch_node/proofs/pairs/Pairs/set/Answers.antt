@@ -1,5 +1,5 @@
 use Rattle.std.proofs.Common.{ap, refl, ◌∙◌}
-use Rattle.ch_model.specs.Node.{with_said}
+use Rattle.ch_one_node.specs.Node.{with_said}
 use Rattle.ch_node.proofs.Counts.{inserted}
 use Rattle.ch_node.proofs.pairs.Pairs.set.Goals as goal
 
