@@ -1,3 +1,6 @@
 mod OneNode
 mod Refused
 mod Unlawful
+mod WrongDelivery
+mod WrongLinks
+mod WrongNotices

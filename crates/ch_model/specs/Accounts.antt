@@ -16,7 +16,7 @@ use Rattle.ch_model.specs.declared.line.What.TheVariants as lines
 use Rattle.ch_model.specs.Same.{same_process}
 use Rattle.ch_model.specs.Logs.{each, some_and, last_is}
 use Rattle.ch_model.specs.Marks.{does, line_of_reference}
-use Rattle.ch_model.specs.Life.{dooms_by, tells_link}
+use Rattle.ch_model.specs.LifeRules.{dooms_by, tells_link}
 use Rattle.ch_model.specs.Watches.{Watching, watch_of}
 use Rattle.ch_model.specs.AccountsBytes.{IsWrittenAndFed}
 use Rattle.ch_model.specs.AccountsMessages.{IsCarried}

@@ -7,7 +7,7 @@ use Rattle.ch_model.specs.Delivery.{HasLawfulReceipts}
 use Rattle.ch_model.specs.Breaks.{HasLicensedBreaks}
 use Rattle.ch_model.specs.Links.{FollowsLinkDiscipline}
 use Rattle.ch_model.specs.LiveSockets.{OneLiveSocket, Bundle}
-use Rattle.ch_model.specs.Life.{FollowsLife}
+use Rattle.ch_model.specs.LifeRules.{FollowsLife}
 use Rattle.ch_model.specs.Watches.{HasLawfulNotices}
 use Rattle.ch_model.specs.References.{FollowsReferences}
 use Rattle.ch_model.specs.Names.{FollowsNames}

@@ -10,6 +10,7 @@ pub mod Declarations
 pub mod Marks
 pub mod Epochs
 pub mod Life
+pub mod LifeRules
 pub mod Names
 pub mod Watches
 pub mod Sockets
@@ -21,6 +22,7 @@ pub mod References
 pub mod Mailboxes
 pub mod AnswersCounts
 pub mod Answers
+pub mod AnswersEntries
 pub mod AnswersOwn
 pub mod HasAnswers
 pub mod AccountsItems

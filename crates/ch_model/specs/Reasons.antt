@@ -1,5 +1,5 @@
 -- Reasons: when two are one, and their words.
-use Rattle.std.specs.Prelude.{ℕ, Bool, true, false, List, codes}
+use Rattle.std.specs.Prelude.{ℕ, Bool, true, false, List, ◌++◌, codes}
 use Rattle.std.specs.Str.{bytes_eq}
 use Rattle.ch_base.specs.declared.event.Why.{Why}
 use Rattle.ch_base.specs.declared.event.Why.TheVariants as whys
@@ -22,6 +22,10 @@ reason_word (reasons.Exception text) = codes "exception"
 reason_word reasons.Disconnect = codes "disconnect"
 reason_word reasons.NodeDown = codes "nodedown"
 reason_word reasons.UnknownId = codes "unknownid"
+
+-- the text of a doom by a link that was told this reason
+abbrev pub link_text : Reason → List ℕ
+link_text reason = codes "link " ++ reason_word reason
 
 -- the reason that is told where a link breaks
 abbrev pub reason_of : Why → Reason

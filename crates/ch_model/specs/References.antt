@@ -84,9 +84,16 @@ abbrev pub finds_what_stood : List Line → List Entry → Entry → Bool
 finds_what_stood journal log (entries.Isat question found) = stood_since journal log question found
 finds_what_stood journal log entry = true
 
+-- a process is made with a reference and a label, or with neither
+abbrev pub has_both : List Entry → Entry → Bool
+has_both log (entries.Made process (Some spawn) None) = false
+has_both log (entries.Made process None (Some label)) = false
+has_both log entry = true
+
 -- references are taken in order, and answered once and truly
 pub record FollowsReferences (journal : List Line) (log : List Entry) : Type 0 where
   pub next_number : IsTrue (each (takes_next journal) log)
+  pub with_label : IsTrue (each has_both log)
   pub one_made : IsTrue (each makes_one log)
   pub one_spawned : IsTrue (each spawns_once log)
   pub spawned_the_made : IsTrue (each spawns_the_made log)

@@ -21,7 +21,8 @@ use Rattle.ch_model.specs.Logs.{each, each_between, until, some_and, none_or, ne
 use Rattle.ch_model.specs.Declarations.{address_of, is_stranger, has_label}
 use Rattle.ch_model.specs.Marks.{is_mark, current_line, in_settle}
 use Rattle.ch_model.specs.Epochs.{breaks}
-use Rattle.ch_model.specs.Life.{is_over, ends, unlabelled}
+use Rattle.ch_model.specs.Life.{is_over, ends}
+use Rattle.ch_model.specs.LifeRules.{unlabelled}
 use Rattle.ch_model.specs.Names.{is_of_name}
 use Rattle.ch_model.specs.Watches.{ends_with}
 use Rattle.ch_model.specs.References.{answers_spawn, answers_name}

@@ -13,8 +13,8 @@ use Rattle.ch_model.specs.declared.entry.Entry.{Entry}
 use Rattle.ch_model.specs.declared.entry.Entry.TheVariants as entries
 use Rattle.ch_model.specs.Same.{same_process, same_reference}
 use Rattle.ch_model.specs.Logs.{each, each_between, from_first, first_of, some_and, next_is}
-use Rattle.ch_model.specs.Reasons.{same_reason, same_why, reason_of}
-use Rattle.ch_model.specs.Life.{is_made, is_over, is_live, link_text}
+use Rattle.ch_model.specs.Reasons.{same_reason, reason_of, link_text}
+use Rattle.ch_model.specs.Life.{is_made, is_over, is_live}
 
 -- who watches whom, and how
 pub record Watching : Type 0 where
