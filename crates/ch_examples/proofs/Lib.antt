@@ -4,3 +4,8 @@ pub mod Crossing
 pub mod Losses
 pub mod Watches
 pub mod Strangers
+pub mod Refused
+pub mod Unlawful
+pub mod WrongDelivery
+pub mod WrongLinks
+pub mod WrongNotices

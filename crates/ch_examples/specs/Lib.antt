@@ -5,3 +5,9 @@ pub mod Crossing
 pub mod Losses
 pub mod Watches
 pub mod Strangers
+pub mod Refused
+pub mod Unlawful
+pub mod WrongParts
+pub mod WrongDelivery
+pub mod WrongLinks
+pub mod WrongNotices
