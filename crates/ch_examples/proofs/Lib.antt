@@ -1,3 +1,6 @@
-mod OneNode
-mod Refused
-mod Unlawful
+pub mod OneNode
+pub mod Messages
+pub mod Crossing
+pub mod Losses
+pub mod Watches
+pub mod Strangers

@@ -1,4 +1,7 @@
 pub mod Shown
 pub mod OneNode
-pub mod Refused
-pub mod Unlawful
+pub mod Messages
+pub mod Crossing
+pub mod Losses
+pub mod Watches
+pub mod Strangers

@@ -151,7 +151,7 @@ settled_in (suc fuel) pass world = elim (see pass world) [
 -- the weight of an end: what has to happen to it at most
 abbrev pub weight_of_end : ℕ → WorldEnd → ℕ
 weight_of_end pending end = elim end.stage [
-  | Pending ↦ pending
+  | Pending ↦ pending + length end.unread
   | Open ↦ 1 + length end.unread
   | Ended ↦ 0
 ]
