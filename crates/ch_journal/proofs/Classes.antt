@@ -1,7 +1,7 @@
 -- The classes of fields: what is known of a field that was read, and that its text is read as it again.
 use Rattle.std.proofs.Common.{◌≡◌, ℕ, suc, ◌/◌, ◌%◌, ◌<◌, ◌≤◌, ◌^◌, Bool, true, false, not, cond, ◌&&◌, List, [], ◌∷◌, ◌++◌, length, slice_index, Option, Some, None, Result, Ok, Err, nat_lt, nat_le, ◌==◌, refl, subst, arith, lit<}
 use Rattle.std.specs.Fmt.{decimal}
-use Rattle.std.specs.List.{list_all}
+use Rattle.std.specs.List.{list_all, list_any}
 use Rattle.std.proofs.lemmas.Bool.{lt-ltb}
 use Rattle.std.proofs.lemmas.Bool.Decides.{nat_tests}
 use Rattle.std.proofs.lemmas.Fmt.{digits_decimal, decimal_nonempty}
@@ -19,9 +19,10 @@ use Rattle.ch_ident.specs.Names.{is_graphic, is_name}
 use Rattle.ch_model.specs.declared.refusal.BadKind.{BadKind}
 use Rattle.ch_model.specs.declared.refusal.BadKind.TheVariants.{Form, Number}
 use Rattle.ch_model.specs.declared.name.ProcName.{ProcName}
-use Rattle.ch_model.specs.Fields.{or_else, at_byte, is_name_byte_of, begins_with_letter, begins_with_dollar, is_node_name_of, node_name_of, digits_of, process_of, word_of, sent_mark_of, decoded, is_dash, bytes_of, read_as, address_of, number_in}
-use Rattle.ch_model.specs.Lines.{Told, is_declared, declared_in, numbered}
-use Rattle.ch_model.specs.Spelling.{process_text, bytes_text}
+use Rattle.ch_model.specs.Fields.{or_else, at_byte, is_name_byte_of, begins_with_letter, begins_with_dollar, is_node_name_of, node_name_of, digits_of, word_of, sent_mark_of, decoded, is_dash, bytes_of, read_as, address_of, number_in}
+use Rattle.ch_model.specs.FieldsOfNames.{process_of, numbered}
+use Rattle.ch_model.specs.LinesTold.{Told, declares_node, declared_in}
+use Rattle.ch_model.specs.SpellingFields.{process_text, bytes_text}
 use Rattle.ch_journal.proofs.Parts.{lacks, lacks_append, lacks_by, split_again, needed, bind_ok}
 
 -- ---- names of nodes
@@ -72,11 +73,15 @@ number_in_again n h = rw (number_again 4294967295 n h (lit< tt)) refl
 
 -- ---- processes
 
+-- a name that a `node` line declared
+abbrev pub is_declared : Told → List ℕ → Bool
+is_declared told name = list_any (declares_node name) told.declarations
+
 -- a process of a node that was declared, with a number in its range
 pub record IsProcess (told : Told) (p : ProcName) : Type 0 where
   pub name : is_node_name_of p.node ≡ true
   pub counter : p.counter ≤ 4294967295
-  pub known : is_declared told.node p.node ≡ true
+  pub known : is_declared told p.node ≡ true
 
 process_name : (text : List ℕ) (q : List ℕ × List ℕ) → process_of text ≡ Ok q → is_node_name_of q.0 ≡ true
 unfolding process_of
@@ -95,9 +100,9 @@ numbered_found q p e =
     let is : made ≡ p = cc in
     subst (λ (t : ProcName). (q.0 ≡ t.node) × (t.counter ≤ 4294967295)) is (refl, number_in_found q.1 a.0 a.1)
 
-pub declared_found : (told : Told) (name n : List ℕ) → declared_in told name ≡ Ok n → is_declared told.node name ≡ true
+pub declared_found : (told : Told) (name n : List ℕ) → declared_in told name ≡ Ok n → is_declared told name ≡ true
 unfolding declared_in
-declared_found told name n e = (needed _ (is_declared told.node name) name n e).0
+declared_found told name n e = (needed _ (is_declared told name) name n e).0
 
 pub process_found : (told : Told) (text : List ℕ) (q : List ℕ × List ℕ) (p : ProcName) (n : List ℕ) → process_of text ≡ Ok q → numbered q ≡ Ok p → declared_in told p.node ≡ Ok n → IsProcess told p
 process_found told text q p n e f g =
@@ -115,7 +120,7 @@ pub numbered_again : (told : Told) (p : ProcName) → IsProcess told p → numbe
 unfolding numbered
 numbered_again told p h = rw (number_in_again p.counter h.counter) refl
 
-pub declared_again : (told : Told) (name : List ℕ) → is_declared told.node name ≡ true → declared_in told name ≡ Ok name
+pub declared_again : (told : Told) (name : List ℕ) → is_declared told name ≡ true → declared_in told name ≡ Ok name
 unfolding declared_in
 declared_again told name h = rw h refl
 

@@ -1,4 +1,5 @@
 pub mod Fields
 pub mod Parts
 pub mod Classes
+pub mod Shapes
 pub mod Lines

@@ -59,3 +59,10 @@ needed k false x y e = absurd cc
 pub bind_ok : {A B : Type 0} (r : Result A BadKind) (f : A → Result B BadKind) (y : B) → (r >>= f) ≡ Ok y → (x : A) × (r ≡ Ok x) × (f x ≡ Ok y)
 bind_ok (Ok x) f y e = (x, refl, e)
 bind_ok (Err k) f y e = absurd cc
+
+abbrev pub accepts : {A : Type 0} → A → Result A BadKind
+accepts x = Ok x
+
+-- what was accepted is one thing
+pub accepted_is : {A : Type 0} (x y : A) → accepts x ≡ accepts y → x ≡ y
+accepted_is x y e = cc

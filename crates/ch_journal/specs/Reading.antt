@@ -3,7 +3,9 @@ use Rattle.std.specs.Prelude.{◌≡◌, ℕ, ◌+◌, List, Option, Some, None,
 use Rattle.ch_model.specs.declared.refusal.BadKind.{BadKind}
 use Rattle.ch_model.specs.declared.line.Line.{Line}
 use Rattle.ch_model.specs.declared.line.What.{What}
-use Rattle.ch_model.specs.Lines.{Told, read_line}
+use Rattle.ch_model.specs.LinesTold.{Told}
+use Rattle.ch_model.specs.LinesBuilt.{one_node}
+use Rattle.ch_model.specs.Lines.{read_line}
 use Rattle.ch_journal.specs.declared.reading.JournalError.{JournalError}
 use Rattle.ch_journal.specs.declared.reading.JournalError.TheVariants.{BadLine, OutOfMemory, Worn}
 use Rattle.ch_journal.specs.ReadingState.{ReadingState}
@@ -27,7 +29,7 @@ read_as state number (Err kind) = record { answer = Err (BadLine number kind); a
 abbrev pub next_line : ReadingState → List ℕ → Step
 next_line state text =
     if state.number == 4294967295 then record { answer = Err Worn; after = state }
-    else read_as state (state.number + 1) (read_line state.told text)
+    else read_as state (state.number + 1) (read_line one_node state.told text)
 
 -- reading the next line
 abbrev pub read_on : ReadingState → List ℕ → Step

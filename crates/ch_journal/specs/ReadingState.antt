@@ -1,7 +1,7 @@
 -- What a reading of a journal knows.
 use Rattle.std.specs.Prelude.{ℕ, Option, None}
 use Rattle.ch_model.specs.declared.refusal.BadKind.{BadKind}
-use Rattle.ch_model.specs.Lines.{Told, untold}
+use Rattle.ch_model.specs.LinesTold.{Told, untold}
 
 -- what the lines so far have told, how many they are, and the number and kind of the line that was refused
 pub record ReadingState : Type 0 where

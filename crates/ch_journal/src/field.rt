@@ -7,8 +7,8 @@ ghost use Rattle.std.specs.Prelude.{◌≡◌, ◌==◌, ◌<◌, length, IfSome
 ghost use Rattle.std.specs.List.{list_all};
 ghost use Rattle.std.specs.Option.{option_map};
 ghost use Rattle.ch_base.specs.Numbers.{is_digit_of, are_digits as are_digits_of};
-ghost use Rattle.ch_model.specs.Fields.{at_byte, field_of, last_of, is_letter_of, is_name_byte_of, begins_with_letter as begins_with_letter_of, begins_with_dollar as begins_with_dollar_of, is_dash as is_dash_of, is_node_name_of, node_name_of, digits_of, process_of, word_of, sent_mark_of, bytes_of, address_of, number_in};
-ghost use Rattle.ch_model.specs.Lines.{numbered as numbered_of};
+ghost use Rattle.ch_model.specs.Fields.{at_byte, field_of, last_of, is_letter_of, is_name_byte_of, begins_with_letter as begins_with_letter_of, begins_with_dollar as begins_with_dollar_of, is_dash as is_dash_of, is_node_name_of, node_name_of, digits_of, word_of, sent_mark_of, bytes_of, address_of, number_in};
+ghost use Rattle.ch_model.specs.FieldsOfNames.{process_of, numbered as numbered_of};
 ghost use Rattle.ch_journal.specs.Outcome.{Gives};
 
 use crate::fault::Fault;
@@ -127,7 +127,7 @@ pub(crate) fn digits(field: &[u8]) -> Result<&[u8], Fault>
 }
 
 /// A process: a node's name, a dot and digits.
-#[tactic(auto, unfolding(ch_model::specs::Fields::process_of))]
+#[tactic(auto, unfolding(ch_model::specs::FieldsOfNames::process_of))]
 pub(crate) fn process(field: &[u8]) -> Result<(&[u8], &[u8]), Fault>
     ensures { Gives (λ p. (p.0.now, p.1.now)) result (process_of field.now) }
 {
@@ -206,7 +206,7 @@ pub(crate) fn number(digits: &[u8]) -> Result<u32, Fault>
 }
 
 /// A process whose number is in its range.
-#[tactic(auto, unfolding(ch_model::specs::Lines::numbered))]
+#[tactic(auto, unfolding(ch_model::specs::FieldsOfNames::numbered))]
 pub(crate) fn numbered(alloc: Global, name: &[u8], digits: &[u8]) -> Result<ProcName, Fault>
     ensures { Gives (λ x. x) result (numbered_of (name.now, digits.now)) }
 {

@@ -4,12 +4,17 @@
 //! Below stand the lines and entries as types. The top calls and the programs stand above.
 #![tactic(auto)]
 
+mod entry_text;
 mod fault;
 mod field;
+mod known;
 mod law;
 mod line;
+mod line_text;
 mod reading;
+mod shape;
 mod status;
+mod text;
 mod writing;
 
 pub use field::split_at_byte;

@@ -5,7 +5,7 @@ ghost use Rattle.ch_journal.specs.ReadingState.{ReadingState, unread};
 ghost use Rattle.ch_journal.specs.Reading.{Answers, read_on, numbered_line as numbered_line_of};
 
 use crate::fault::Fault;
-use crate::line::Known;
+use crate::known::Known;
 use ch_model::{BadKind, Line, What};
 use std::alloc::Global;
 use std::marker::Model;
@@ -50,7 +50,7 @@ impl Reading {
     {
         Reading {
             alloc,
-            known: Known::nothing(),
+            known: Known::nothing(alloc),
             number: 0,
             refused: None,
         }

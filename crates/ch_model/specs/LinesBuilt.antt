@@ -45,7 +45,7 @@ send_process_line told rest = do
 abbrev pub one_node : Built
 one_node = record {
   words =
-    reads (codes "send") send_process_line ∷ reads (codes "recv") recv_line ∷ reads (codes "end") end_line
-    ∷ reads (codes "proc") proc_line ∷ reads (codes "node") only_node_line ∷ [];
-  skips = false
+      reads (codes "send") send_process_line ∷ reads (codes "recv") recv_line ∷ reads (codes "end") end_line
+      ∷ reads (codes "proc") proc_line ∷ reads (codes "node") only_node_line ∷ [];
+  skips = false;
 }
