@@ -11,3 +11,5 @@ pub mod Embedded
 pub mod EmbeddedCalls
 pub mod EmbeddedNotes
 pub mod EmbeddedLines
+pub mod WholeModel
+pub mod Frames
