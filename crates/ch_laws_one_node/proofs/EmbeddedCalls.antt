@@ -2,11 +2,9 @@
 use Rattle.std.specs.Prelude.{◌≡◌, ℕ, ◌+◌, Bool, true, false, not, ◌&&◌, ◌||◌, List, [], ◌∷◌, ◌++◌, length, map, Option, Some, None, is_some, Result, Ok, Err, nat_lt, nat_le, ◌==◌, slice_get, slice_set, if◌then◌else◌}
 use Rattle.std.specs.Option.{option_map}
 use Rattle.std.specs.Str.{bytes_eq}
-use Rattle.std.proofs.Common.{refl, ap, sym, ◌∙◌}
-use Rattle.ch_base.specs.declared.memory.Stop.{Stop}
+use Rattle.std.proofs.Common.{refl, ap, ◌∙◌}
 use Rattle.ch_base.specs.declared.memory.Stop.TheVariants as stops
 use Rattle.ch_base.specs.declared.event.Room.{Room}
-use Rattle.ch_ident.specs.declared.identifier.ProcessId.{ProcessId}
 use Rattle.ch_ident.specs.declared.message.Message.{Message}
 use Rattle.ch_ident.specs.declared.reason.Reason.TheVariants.{Normal}
 use Rattle.ch_ident.specs.Spelling as spelling
@@ -19,22 +17,20 @@ use Rattle.ch_mail.specs.Lives.{is_live, is_over}
 use Rattle.ch_mail.specs.Queue.{first_that, first_of_mark}
 use Rattle.ch_mail.specs.Mail as mail
 use Rattle.ch_mail.specs.Mail.{newborn, there_or, waiting_in, appended, given_to, taken_from, ended, make_of, life_of, put_of, take_of, end_of, last_u32, last_u64}
-use Rattle.ch_static.specs.declared.target.Target.{Target}
 use Rattle.ch_static.specs.declared.target.Target.TheVariants as targets
 use Rattle.ch_watch.specs.Same.{same_node}
 use Rattle.ch_watch.specs.Watches.{ending_of, ended_of}
 use Rattle.ch_model.specs.declared.note.Note.TheVariants as notes
-use Rattle.ch_model.specs.declared.act.Act.{Act}
 use Rattle.ch_model.specs.declared.act.Act.TheVariants as acts
 use Rattle.ch_model.specs.declared.step.Weight.{Weight}
 use Rattle.ch_model.specs.declared.command.CommandError.{CommandError}
 use Rattle.ch_model.specs.declared.command.CommandError.TheVariants.{Unknown, Dead, Empty, Long, Worn}
 use Rattle.ch_model.specs.NodeState.{NodeState as WholeNode, Pair}
-use Rattle.ch_model.specs.NodeActs.{◌>>=◌, ◌and_then◌, Done, Answered, silent, after, stopping, mailed, or_unchanged, growing, each_in_turn}
+use Rattle.ch_model.specs.NodeActs.{◌>>=◌, Done, Answered, after, stopping, mailed, or_unchanged, growing}
 use Rattle.ch_model.specs.NodeIds.{is_own, life_here}
 use Rattle.ch_model.specs.NodeLives.{make}
 use Rattle.ch_model.specs.NodeEnds.{farewell, over}
-use Rattle.ch_model.specs.NodePairs.{pair_of, with_pair, conns_by, closed_pairs}
+use Rattle.ch_model.specs.NodePairs.{closed_pairs}
 use Rattle.ch_model.specs.NodeRoom.{acting_as, acting, is_known, known, fitting, longest, room_to_send, not_full, not_spent}
 use Rattle.ch_model.specs.NodeSends.{got_put, get, deliver, carry, say, send_on}
 use Rattle.ch_model.specs.NodeCommands.{send_of, receive_of, finish_of}

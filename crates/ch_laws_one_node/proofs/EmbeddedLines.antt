@@ -1,5 +1,5 @@
 -- Each event line of one node does in the whole model's world what it does in the model of one node.
-use Rattle.std.specs.Prelude.{◌≡◌, ℕ, ◌+◌, ◌≤◌, Bool, true, false, not, ◌&&◌, cond, List, [], ◌∷◌, ◌++◌, length, Option, Some, None, Result, Ok, Err, nat_lt, nat_le, ◌==◌, slice_get, slice_set, if◌then◌else◌}
+use Rattle.std.specs.Prelude.{◌≡◌, ℕ, ◌+◌, Bool, true, false, not, ◌&&◌, cond, List, [], ◌∷◌, ◌++◌, length, Option, Some, None, nat_lt, nat_le, ◌==◌, slice_get, slice_set}
 use Rattle.std.specs.Str.{bytes_eq}
 use Rattle.std.proofs.Common.{refl, ap, sym, ◌∙◌, subst}
 use Rattle.std.proofs.lemmas.Bool.{le-leb}
@@ -39,13 +39,13 @@ use Rattle.ch_model.specs.WorldHappenings.{Answered, nothing, cell_told, cell_he
 use Rattle.ch_model.specs.WorldLines.{node_hears}
 use Rattle.ch_model.specs.World.{line_answered, event_step}
 use Rattle.ch_one_node.specs.declared.note.Note.TheVariants.{Made, Said, Got, Took, Over}
-use Rattle.ch_one_node.specs.States.{NodeState, World}
+use Rattle.ch_one_node.specs.States.{World}
 use Rattle.ch_one_node.specs.Node.{process_id, next_index, with_said, send_of, receive_of, finish_of, node_make}
 use Rattle.ch_one_node.specs.World.{answered, event_of}
 use Rattle.ch_laws_one_node.specs.OneNode.{IsOfNode, FitsFrame}
 use Rattle.ch_laws_one_node.proofs.Appending.{at, equal_bytes, equal_numbers}
 use Rattle.ch_laws_one_node.proofs.Shows.{new_process}
-use Rattle.ch_laws_one_node.proofs.Calls.{Done, given, to_process, to_target, by_live, by_sender, send_is, of_found, taking, receive_is, finishing, ending, finish_is, making, make_is}
+use Rattle.ch_laws_one_node.proofs.Calls.{given, to_process, to_target, by_live, by_sender, send_is, of_found, taking, receive_is, finishing, ending, finish_is, making, make_is}
 use Rattle.ch_laws_one_node.proofs.Embedded.{id_in, node_in, cell_in, names_in, world_in}
 use Rattle.ch_laws_one_node.proofs.EmbeddedCalls.{whole_by_live, whole_found, whole_taking, whole_receive_is, whole_finishing, whole_ending, whole_finish_is, whole_making, whole_make_is, whole_said, whole_target, whole_by_sender, whole_send_is}
 use Rattle.ch_laws_one_node.proofs.EmbeddedNotes.{StepsAs, Same, told_of, performed, told_made, told_over, told_took, told_said, told_got, place_at}

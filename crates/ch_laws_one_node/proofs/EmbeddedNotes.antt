@@ -1,6 +1,6 @@
 -- What the whole model's world tells of what a node did, where the world is that of one node.
-use Rattle.std.specs.Prelude.{◌≡◌, ℕ, ◌==◌, Bool, true, List, [], ◌∷◌, ◌++◌, map, cond, Option, Some, None, Result, Ok, Err, if◌then◌else◌}
-use Rattle.std.proofs.Common.{refl, ap, sym, ◌∙◌}
+use Rattle.std.specs.Prelude.{◌≡◌, ℕ, true, List, [], ◌∷◌, map, cond, Option, Some, None, Result, Ok, Err, if◌then◌else◌}
+use Rattle.std.proofs.Common.{refl, ap, ◌∙◌}
 use Rattle.std.proofs.lemmas.List.{append-nil}
 use Rattle.ch_base.specs.declared.memory.Stop.{Stop}
 use Rattle.ch_ident.specs.declared.message.Message.{Message}
@@ -20,9 +20,9 @@ use Rattle.ch_model.specs.declared.local.LocalEntry.{LocalEntry}
 use Rattle.ch_model.specs.declared.local.LocalEntry.TheVariants as local
 use Rattle.ch_model.specs.declared.step.Place.{Place}
 use Rattle.ch_model.specs.NodeActs.{Answered as NodeAnswered}
-use Rattle.ch_model.specs.CellSteps.{◌then◌, Followed, after_entries, acts_on, all_items}
+use Rattle.ch_model.specs.CellSteps.{◌then◌, after_entries, acts_on, all_items}
 use Rattle.ch_model.specs.Cell.{answered as cell_answered, node_did}
-use Rattle.ch_model.specs.WorldState.{Cell, Named, World as WholeWorld}
+use Rattle.ch_model.specs.WorldState.{Cell, World as WholeWorld}
 use Rattle.ch_model.specs.Naming.{or_nobody, called, process_called}
 use Rattle.ch_model.specs.WorldSteps.{all_told}
 use Rattle.ch_model.specs.WorldHappenings.{cell_told}

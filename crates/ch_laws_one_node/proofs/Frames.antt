@@ -1,7 +1,7 @@
 -- A message of a line that is read fits in one frame, as the line has a limit.
-use Rattle.std.specs.Prelude.{◌≡◌, ℕ, suc, ◌+◌, ◌-◌, ◌%◌, ◌≤◌, Bool, true, false, not, cond, List, [], ◌∷◌, ◌++◌, length, Option, Some, None, Result, Ok, Err, nat_lt, ◌==◌, if◌then◌else◌, codes}
+use Rattle.std.specs.Prelude.{◌≡◌, ℕ, suc, ◌+◌, ◌-◌, ◌%◌, ◌≤◌, Bool, true, false, not, cond, List, [], ◌∷◌, length, Option, Some, None, Result, Ok, Err, nat_lt, ◌==◌, if◌then◌else◌, codes}
 use Rattle.std.specs.Str.{bytes_eq}
-use Rattle.std.proofs.Common.{refl, ap, sym, ◌∙◌, subst, arith}
+use Rattle.std.proofs.Common.{refl, sym, subst, arith}
 use Rattle.std.proofs.lemmas.List.{length-append}
 use Rattle.std.proofs.lemmas.Bool.{ltb-false, or_parts}
 use Rattle.hex.specs.declared.error.FromHexError.{FromHexError}
@@ -13,11 +13,9 @@ use Rattle.ch_ident.specs.Names.{is_name}
 use Rattle.ch_model.specs.declared.refusal.BadKind.{BadKind}
 use Rattle.ch_model.specs.declared.refusal.BadKind.TheVariants.{Form}
 use Rattle.ch_model.specs.declared.refusal.LineFault.TheVariants.{TooLong}
-use Rattle.ch_model.specs.declared.name.TargetName.TheVariants.{Process}
-use Rattle.ch_model.specs.declared.line.Line.{Line}
 use Rattle.ch_model.specs.declared.line.What.{What}
-use Rattle.ch_model.specs.declared.line.What.TheVariants.{Node, Proc, Send, Recv, End}
-use Rattle.ch_model.specs.Fields.{◌>>=◌, need, at_byte, up_to_space, decoded, is_dash, field_of, last_of, node_name_of, word_of, sent_mark_of, begins_with_dollar, bytes_of}
+use Rattle.ch_model.specs.declared.line.What.TheVariants.{Send}
+use Rattle.ch_model.specs.Fields.{need, at_byte, up_to_space, decoded, is_dash, field_of, last_of, node_name_of, word_of, sent_mark_of, begins_with_dollar, bytes_of}
 use Rattle.ch_model.specs.FieldsOfNames.{process_of, numbered}
 use Rattle.ch_model.specs.LinesTold.{Told, untold, declared_in}
 use Rattle.ch_model.specs.LinesDeclared.{place_line, node_line}

@@ -1,10 +1,9 @@
 -- What is read fits what was told before: one declaration, and then events of its node.
 use Rattle.std.specs.Prelude.{◌≡◌, ℕ, ◌+◌, ◌-◌, Bool, true, false, ◌||◌, List, [], ◌∷◌, ◌++◌, Option, Some, None, Result, Ok, Err, if◌then◌else◌, codes}
-use Rattle.std.proofs.Common.{refl, ap, sym, ◌∙◌, subst}
+use Rattle.std.proofs.Common.{refl, sym, ◌∙◌, subst}
 use Rattle.std.specs.Str.{bytes_eq}
 use Rattle.std.specs.List.{list_any}
 use Rattle.std.proofs.lemmas.Slice.Eq.{bytes_eq-Decides}
-use Rattle.ch_base.specs.AddressValues.{AddressValue}
 use Rattle.ch_model.specs.declared.refusal.BadKind.{BadKind}
 use Rattle.ch_model.specs.declared.refusal.BadKind.TheVariants.{Form, Undeclared}
 use Rattle.ch_model.specs.declared.refusal.LineFault.TheVariants.{TooLong}
@@ -12,9 +11,9 @@ use Rattle.ch_model.specs.declared.name.TargetName.TheVariants.{Process}
 use Rattle.ch_model.specs.declared.line.Line.{Line}
 use Rattle.ch_model.specs.declared.line.What.{What}
 use Rattle.ch_model.specs.declared.line.What.TheVariants.{Node, Proc, Send, Recv, End}
-use Rattle.ch_model.specs.Fields.{◌>>=◌, need, field_of, last_of, node_name_of, digits_of, word_of, sent_mark_of, bytes_of, address_of, number_in}
+use Rattle.ch_model.specs.Fields.{◌>>=◌, need, field_of, last_of, node_name_of, word_of, sent_mark_of, bytes_of}
 use Rattle.ch_model.specs.FieldsOfNames.{process_of, numbered}
-use Rattle.ch_model.specs.LinesTold.{Told, untold, declares_node, declared_in, early_in, new_name, new_address, told_after}
+use Rattle.ch_model.specs.LinesTold.{Told, untold, declares_node, declared_in, told_after}
 use Rattle.ch_model.specs.LinesDeclared.{place_line, node_line}
 use Rattle.ch_model.specs.LinesOfProcesses.{process_alone, process_and_word, proc_line, recv_line, end_line}
 use Rattle.ch_model.specs.Lines.{line_of_word, line_said, said_and_told, read_line, header}

@@ -1,7 +1,6 @@
 -- The whole model gives the log of a journal of one node that the model of one node gives.
-use Rattle.std.specs.Prelude.{◌≡◌, ℕ, Bool, true, false, ◌&&◌, ◌==◌, cond, List, [], ◌∷◌, ◌++◌, map, filter, Option, Some, None, Result, Ok, Err, if◌then◌else◌}
+use Rattle.std.specs.Prelude.{◌≡◌, ℕ, true, false, ◌&&◌, ◌==◌, cond, List, [], ◌∷◌, ◌++◌, map, filter, Option, Some, None, Result, Ok, Err, if◌then◌else◌}
 use Rattle.std.specs.List.{flat_map}
-use Rattle.std.specs.Str.{bytes_eq}
 use Rattle.std.proofs.Common.{refl, ap, sym, ◌∙◌, subst}
 use Rattle.ch_base.specs.AddressValues.{AddressValue}
 use Rattle.ch_base.specs.declared.memory.Stop.{Stop}
@@ -23,7 +22,7 @@ use Rattle.ch_one_node.specs.States.{World}
 use Rattle.ch_one_node.specs.Node.{new_node}
 use Rattle.ch_one_node.specs.World as small
 use Rattle.ch_one_node.specs.World.{event_of, some_world}
-use Rattle.ch_laws_one_node.specs.OneNode.{IsOfNode, AreOfNode, IsOfOneNode, FitsFrame, FitFrames}
+use Rattle.ch_laws_one_node.specs.OneNode.{IsOfNode, AreOfNode, IsOfOneNode, FitFrames}
 use Rattle.ch_laws_one_node.proofs.Appending.{equal_bytes, equal_numbers}
 use Rattle.ch_laws_one_node.proofs.Embedded.{world_in}
 use Rattle.ch_laws_one_node.proofs.EmbeddedNotes.{StepsAs}
