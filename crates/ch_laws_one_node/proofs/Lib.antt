@@ -13,3 +13,5 @@ pub mod EmbeddedNotes
 pub mod EmbeddedLines
 pub mod WholeModel
 pub mod Frames
+pub mod EntriesOf
+pub mod Bridges
