@@ -15,3 +15,6 @@ pub mod WholeModel
 pub mod Frames
 pub mod EntriesOf
 pub mod Bridges
+pub mod WholeEntries
+pub mod WholeMailboxes
+pub mod Blocks
