@@ -18,3 +18,6 @@ pub mod Bridges
 pub mod WholeEntries
 pub mod WholeMailboxes
 pub mod Blocks
+pub mod WholeVerdicts
+pub mod WholeAnswers
+pub mod WholeLaw

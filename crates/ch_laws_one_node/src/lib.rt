@@ -12,6 +12,7 @@ ghost use Rattle.ch_model.specs.Journal.{scan_of, journal_of, first_fault, raw_l
 ghost use Rattle.ch_model.specs.LinesBuilt.{one_node};
 ghost use Rattle.ch_one_node.specs.World.{log_of};
 ghost use Rattle.ch_laws_one_node.specs.Lawful.{IsLawful};
+ghost use Rattle.ch_laws_one_node.specs.LawfulOfOneNode.{IsLawfulOfOneNode};
 ghost use Rattle.ch_model.specs.World.{log_of as whole_log_of};
 ghost use Rattle.ch_laws_one_node.specs.OneNode.{IsOfOneNode, FitFrames};
 ghost use Rattle.ch_laws_one_node.specs.Places.{AreNumbered, IsFirstFault};
@@ -58,4 +59,12 @@ pub fn whole_model()
 pub fn lawful()
     ensures lines { (journal : List Line) (log : List Entry) → IsOfOneNode journal → log_of journal ≡ Ok log → IsLawful journal log }
     ensures bytes { (bytes : List ℕ) (log : List Entry) → log_of (journal_of one_node bytes) ≡ Ok log → IsLawful (journal_of one_node bytes) log }
+{}
+
+/// So it is as the whole model promises: messages are numbered and got, lives are led, mailboxes kept
+/// and lines answered as its definitions of a lawful log say, for journals whose lines have rising
+/// numbers and whose messages fit. So it is of the journal that any bytes spell.
+pub fn lawful_as_promised()
+    ensures lines { (least : ℕ) (journal : List Line) (log : List Entry) → IsOfOneNode journal → FitFrames journal → AreNumbered least journal None → log_of journal ≡ Ok log → IsLawfulOfOneNode journal log }
+    ensures bytes { (bytes : List ℕ) (log : List Entry) → log_of (journal_of one_node bytes) ≡ Ok log → IsLawfulOfOneNode (journal_of one_node bytes) log }
 {}
