@@ -1,9 +1,8 @@
 -- The log of one node has entries of that node alone.
-use Rattle.std.specs.Prelude.{◌≡◌, ℕ, ◌+◌, Bool, true, false, ◌||◌, cond, List, [], ◌∷◌, ◌++◌, count_by, Option, Some, None, Result, Ok, Err}
+use Rattle.std.specs.Prelude.{◌≡◌, ℕ, ◌+◌, Bool, false, ◌||◌, cond, List, [], ◌∷◌, ◌++◌, count_by, Some, None, Result, Ok, Err}
 use Rattle.std.specs.List.{list_any, fold}
 use Rattle.std.proofs.Common.{refl, ap, sym, ◌∙◌, subst, arith}
 use Rattle.ch_base.specs.declared.memory.Stop.{Stop}
-use Rattle.ch_base.specs.declared.memory.Stop.TheVariants as stops
 use Rattle.ch_model.specs.declared.name.TargetName.TheVariants as targets
 use Rattle.ch_model.specs.declared.entry.Entry.{Entry}
 use Rattle.ch_model.specs.declared.entry.Entry.TheVariants.{Line, Made, Said, Got, Took, Over}
@@ -13,11 +12,11 @@ use Rattle.ch_model.specs.declared.line.What.TheVariants as lines
 use Rattle.ch_one_node.specs.declared.note.Note.{Note}
 use Rattle.ch_one_node.specs.declared.note.Note.TheVariants as notes
 use Rattle.ch_one_node.specs.declared.command.CommandError.TheVariants as errors
-use Rattle.ch_one_node.specs.States.{NodeState, World}
-use Rattle.ch_one_node.specs.Node.{command_of, node_make, new_node, process_id}
+use Rattle.ch_one_node.specs.States.{World}
+use Rattle.ch_one_node.specs.Node.{node_make, process_id}
 use Rattle.ch_one_node.specs.Node.{send_of, receive_of, finish_of}
-use Rattle.ch_one_node.specs.World.{◌>>=◌, answered, entries_from, entries_of, event_of, some_world, log_from, log_of}
-use Rattle.ch_laws_one_node.specs.OneNode.{IsOfNode, AreOfNode, IsOfOneNode}
+use Rattle.ch_one_node.specs.World.{◌>>=◌, answered, entries_from, event_of, some_world, log_from}
+use Rattle.ch_laws_one_node.specs.OneNode.{IsOfNode, AreOfNode}
 use Rattle.ch_laws_one_node.proofs.Calls.{Done}
 
 -- the entry is of this node, and of a kind that one node has

@@ -20,4 +20,6 @@ pub mod WholeMailboxes
 pub mod Blocks
 pub mod WholeVerdicts
 pub mod WholeAnswers
+pub mod Quiet
+pub mod WithoutSockets
 pub mod WholeLaw

@@ -1,10 +1,8 @@
 -- The log of one node answers its lines as the whole model promises.
-use Rattle.std.specs.Prelude.{◌≡◌, ℕ, Bool, true, false, not, ◌&&◌, ◌||◌, List, [], ◌∷◌, ◌++◌, filter_map, Option, Some, None, ◌==◌}
+use Rattle.std.specs.Prelude.{◌≡◌, ℕ, Bool, true, false, not, ◌&&◌, ◌||◌, List, [], ◌∷◌, ◌++◌, filter_map, Some, None}
 use Rattle.std.specs.List.{AllByRecursion, cons_option}
-use Rattle.std.specs.Str.{bytes_eq}
 use Rattle.std.proofs.Common.{refl, ap, sym, ◌∙◌, subst}
 use Rattle.ch_ident.specs.declared.reason.Reason.TheVariants as reasons
-use Rattle.ch_model.specs.declared.name.ProcName.{ProcName}
 use Rattle.ch_model.specs.declared.name.TargetName.TheVariants as targets
 use Rattle.ch_model.specs.declared.entry.Entry.{Entry}
 use Rattle.ch_model.specs.declared.entry.Entry.TheVariants.{Line, Made, Said, Got, Took, Over, Fed}
@@ -14,7 +12,7 @@ use Rattle.ch_model.specs.declared.line.Line.{Line as JournalLine}
 use Rattle.ch_model.specs.declared.line.What.{What}
 use Rattle.ch_model.specs.declared.line.What.TheVariants as lines
 use Rattle.ch_model.specs.Logs as logs
-use Rattle.ch_model.specs.Marks.{line_numbered, is_mark, is_settle, current_line, line_just_done, in_settle}
+use Rattle.ch_model.specs.Marks.{is_mark, is_settle, current_line, line_just_done, in_settle}
 use Rattle.ch_model.specs.Reasons.{same_reason}
 use Rattle.ch_model.specs.LifeRules as rules
 use Rattle.ch_model.specs.Answers.{answer_to}
@@ -24,12 +22,11 @@ use Rattle.ch_model.specs.HasAnswers.{same_answer}
 use Rattle.ch_laws_one_node.specs.OneNode.{IsOfNode, AreOfNode}
 use Rattle.ch_laws_one_node.specs.Answers.{answer_over, IsOwnEntry, IsReceipt, IsDone, HasAnswersAfter}
 use Rattle.ch_laws_one_node.specs.Lawful.{IsLawfulEntry}
-use Rattle.ch_laws_one_node.proofs.Appending.{equal_bytes}
 use Rattle.ch_laws_one_node.proofs.EntriesOf.{IsEntryOf, AreEntriesOf}
 use Rattle.ch_laws_one_node.proofs.Bridges.{equal_bytes_are}
 use Rattle.ch_laws_one_node.proofs.WholeEntries.{both_hold, same_self_is}
 use Rattle.ch_laws_one_node.proofs.WholeVerdicts.{same_answer_self, answer_is}
-use Rattle.ch_laws_one_node.proofs.Blocks.{Context, Passes, PassesBetween, SkipsPlain, IsPlain, Block, block_of, plain_done, plain_each, receipts_each, done_just, done_now, done_still}
+use Rattle.ch_laws_one_node.proofs.Blocks.{Passes, PassesBetween, SkipsPlain, IsPlain, Block, block_of, plain_done, plain_each, receipts_each, done_just, done_now, done_still}
 
 -- ---- a line has its answer
 

@@ -8,21 +8,20 @@ use Rattle.ch_model.specs.declared.name.ProcName.{ProcName}
 use Rattle.ch_model.specs.declared.name.TargetName.{TargetName}
 use Rattle.ch_model.specs.declared.name.TargetName.TheVariants as targets
 use Rattle.ch_model.specs.declared.entry.Entry.{Entry}
-use Rattle.ch_model.specs.declared.entry.Entry.TheVariants.{Line, Made, Said, Got, Took, Over, Again, Watch, Told, Doom}
+use Rattle.ch_model.specs.declared.entry.Entry.TheVariants.{Made, Said, Got, Took, Over, Again, Watch, Told, Doom}
 use Rattle.ch_model.specs.declared.line.Line.{Line as JournalLine}
-use Rattle.ch_model.specs.Same.{node_of}
 use Rattle.ch_model.specs.Epochs as epochs
 use Rattle.ch_model.specs.Life as life
 use Rattle.ch_model.specs.LifeRules as rules
 use Rattle.ch_model.specs.Delivery as delivery
 use Rattle.ch_model.specs.Logs as logs
-use Rattle.ch_laws_one_node.specs.Counts.{same_process, is_over_in}
+use Rattle.ch_laws_one_node.specs.Counts.{same_process}
 use Rattle.ch_laws_one_node.specs.Life.{Lives}
-use Rattle.ch_laws_one_node.specs.Delivery.{is_the_said, gets_later, last_is, IsLawfulReceipt}
+use Rattle.ch_laws_one_node.specs.Delivery.{is_the_said, gets_later, last_is}
 use Rattle.ch_laws_one_node.specs.Lawful.{IsLawfulEntry, AreLawfulAfter}
 use Rattle.ch_laws_one_node.proofs.Appending.{equal_bytes, equal_numbers}
 use Rattle.ch_laws_one_node.proofs.EntriesOf.{IsEntryOf, AreEntriesOf, entries_append, anys_same}
-use Rattle.ch_laws_one_node.proofs.Bridges.{equal_bytes_are, made_is, shut_is, over_is, made_on_is, says_it_same, epoch_is, index_is, got_is, later_is, broken_is}
+use Rattle.ch_laws_one_node.proofs.Bridges.{equal_bytes_are, made_is, over_is, made_on_is, says_it_same, epoch_is, index_is, got_is, later_is, broken_is}
 
 pub both_hold : (a b : Bool) → a ≡ true → b ≡ true → (a && b) ≡ true
 both_hold true true h g = refl

@@ -12,7 +12,7 @@ use Rattle.ch_model.specs.declared.entry.Entry.TheVariants.{Got, Took, Told, Spa
 use Rattle.ch_model.specs.declared.line.Line.{Line as JournalLine}
 use Rattle.ch_model.specs.Mailboxes as mailboxes
 use Rattle.ch_model.specs.Logs as logs
-use Rattle.ch_laws_one_node.specs.Counts.{same_process, taken_in}
+use Rattle.ch_laws_one_node.specs.Counts.{same_process}
 use Rattle.ch_laws_one_node.specs.Mailboxes.{message_of, body_of_mark, entering, entered_after, entered}
 use Rattle.ch_laws_one_node.specs.Lawful.{IsLawfulEntry}
 use Rattle.ch_laws_one_node.proofs.Appending.{equal_bytes}

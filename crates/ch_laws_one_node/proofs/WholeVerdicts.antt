@@ -1,11 +1,10 @@
 -- The answers that the whole model promises to the lines of one node are those of one node.
-use Rattle.std.specs.Prelude.{◌≡◌, ℕ, ◌≤◌, Bool, true, false, not, ◌&&◌, ◌||◌, List, length, Option, Some, None, ◌==◌, nat_lt, nat_le, if◌then◌else◌}
+use Rattle.std.specs.Prelude.{◌≡◌, ℕ, ◌≤◌, Bool, true, false, not, ◌&&◌, ◌||◌, List, length, nat_lt, nat_le, if◌then◌else◌}
 use Rattle.std.specs.Str.{bytes_eq}
-use Rattle.std.proofs.Common.{refl, ap, sym, ◌∙◌, subst}
+use Rattle.std.proofs.Common.{refl, ap, sym, ◌∙◌}
 use Rattle.std.proofs.lemmas.Bool.{le-ltb}
 use Rattle.ch_ident.specs.Spelling as spelling
 use Rattle.ch_model.specs.declared.name.ProcName.{ProcName}
-use Rattle.ch_model.specs.declared.name.TargetName.{TargetName}
 use Rattle.ch_model.specs.declared.name.TargetName.TheVariants as targets
 use Rattle.ch_model.specs.declared.entry.Entry.{Entry}
 use Rattle.ch_model.specs.declared.entry.Verdict.{Verdict}

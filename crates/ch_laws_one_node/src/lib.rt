@@ -1,7 +1,8 @@
-//! The laws of one node: what is read as a journal, and that its log is lawful.
+//! The laws of one node: what is read as a journal, that the whole model gives its log, and that its
+//! log is lawful.
 //!
-//! The model stands below, with the definition of a lawful log. The calls that write the log of a
-//! journal stand above, and cite these laws. Each function is empty: its clause is the law.
+//! The whole model and the model of one node stand below. The calls that write the log of a journal
+//! stand above, and cite these laws. Each function is empty: its clause is the law.
 #![tactic(auto)]
 
 ghost use Rattle.std.specs.Prelude.{◌≡◌, ℕ, ◌+◌, ◌≤◌, List, ◌∷◌, length, take, Some, None, Ok};
@@ -12,7 +13,7 @@ ghost use Rattle.ch_model.specs.Journal.{scan_of, journal_of, first_fault, raw_l
 ghost use Rattle.ch_model.specs.LinesBuilt.{one_node};
 ghost use Rattle.ch_one_node.specs.World.{log_of};
 ghost use Rattle.ch_laws_one_node.specs.Lawful.{IsLawful};
-ghost use Rattle.ch_laws_one_node.specs.LawfulOfOneNode.{IsLawfulOfOneNode};
+ghost use Rattle.ch_model.specs.Lawful.{IsPromised};
 ghost use Rattle.ch_model.specs.World.{log_of as whole_log_of};
 ghost use Rattle.ch_laws_one_node.specs.OneNode.{IsOfOneNode, FitFrames};
 ghost use Rattle.ch_laws_one_node.specs.Places.{AreNumbered, IsFirstFault};
@@ -61,10 +62,12 @@ pub fn lawful()
     ensures bytes { (bytes : List ℕ) (log : List Entry) → log_of (journal_of one_node bytes) ≡ Ok log → IsLawful (journal_of one_node bytes) log }
 {}
 
-/// So it is as the whole model promises: messages are numbered and got, lives are led, mailboxes kept
-/// and lines answered as its definitions of a lawful log say, for journals whose lines have rising
-/// numbers and whose messages fit. So it is of the journal that any bytes spell.
+/// All that the whole model promises of the log of a journal holds of the log of one node: messages
+/// are numbered, got and taken, lives are led and lines answered as it says; and what it says of links,
+/// sockets, bytes, watches, references, names and settling holds, as nothing of these is in the log.
+/// The lines of the journal have rising numbers, and its messages fit in frames, as in the journal that
+/// any bytes spell.
 pub fn lawful_as_promised()
-    ensures lines { (least : ℕ) (journal : List Line) (log : List Entry) → IsOfOneNode journal → FitFrames journal → AreNumbered least journal None → log_of journal ≡ Ok log → IsLawfulOfOneNode journal log }
-    ensures bytes { (bytes : List ℕ) (log : List Entry) → log_of (journal_of one_node bytes) ≡ Ok log → IsLawfulOfOneNode (journal_of one_node bytes) log }
+    ensures lines { (least : ℕ) (journal : List Line) (log : List Entry) → IsOfOneNode journal → FitFrames journal → AreNumbered least journal None → log_of journal ≡ Ok log → IsPromised journal log }
+    ensures bytes { (bytes : List ℕ) (log : List Entry) → log_of (journal_of one_node bytes) ≡ Ok log → IsPromised (journal_of one_node bytes) log }
 {}
