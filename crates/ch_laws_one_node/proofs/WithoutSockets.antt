@@ -1,7 +1,6 @@
 -- What the whole model promises of names, frames, live sockets and settling holds where none of them is.
-use Rattle.std.specs.Prelude.{◌≡◌, ℕ, Bool, true, false, not, ◌&&◌, ◌||◌, List, [], ◌∷◌, ◌++◌, filter, filter_map, position, count_by, nat_le, Option, Some, None}
+use Rattle.std.specs.Prelude.{◌≡◌, ℕ, Bool, true, ◌||◌, List, [], ◌∷◌, ◌++◌, filter, filter_map, position, count_by, nat_le, Option, Some, None}
 use Rattle.std.specs.List.{list_any, list_all, cons_option}
-use Rattle.std.specs.Str.{bytes_eq}
 use Rattle.std.proofs.Common.{refl, ap, sym, ◌∙◌}
 use Rattle.ch_model.specs.declared.name.ProcName.{ProcName}
 use Rattle.ch_model.specs.declared.name.SockName.{SockName}
@@ -14,7 +13,7 @@ use Rattle.ch_model.specs.Logs as logs
 use Rattle.ch_model.specs.Names.{names_of, fall_first, loses_names}
 use Rattle.ch_model.specs.LiveSockets.{accepted_by, is_unclosed, has_one_live}
 use Rattle.ch_model.specs.Rest.{SettlesAtRestAfter}
-use Rattle.ch_model.specs.AccountsFrames.{Saying, is_saying, carried, user_data, next_carried, written_sayings}
+use Rattle.ch_model.specs.AccountsFrames.{Saying, is_saying, carried, written_sayings}
 use Rattle.ch_model.specs.AccountsMessages.{Feeding, feeding, arrived, gets_by_bytes, got_before, gets_in_order_written}
 use Rattle.ch_laws_one_node.proofs.EntriesOf.{IsEntryOf, AreEntriesOf, entries_append}
 use Rattle.ch_laws_one_node.proofs.Bridges.{equal_bytes_are}
