@@ -1,7 +1,6 @@
 -- What a node keeps: its processes, what they watch and are named, whom they have sent to, and what has arrived.
-use Rattle.std.specs.Prelude.{ℕ, Bool, List, ◌×◌}
+use Rattle.std.specs.Prelude.{ℕ, Bool, List}
 use Rattle.ch_base.specs.declared.address.Address.{Address}
-use Rattle.ch_ident.specs.declared.identifier.Identifier.{Identifier}
 use Rattle.ch_ident.specs.declared.identifier.ProcessId.{ProcessId}
 use Rattle.ch_mail.specs.Process.{Process}
 use Rattle.ch_static.specs.declared.target.Target.{Target}
@@ -22,12 +21,12 @@ pub record Pair : Type 0 where
   pub mark : Mark
 
 -- What a connection that arrived is for, by its opening message: not told yet; nothing, and all on it is dropped;
--- messages of the peer's node; messages to names; or messages to a process or port.
+-- messages of the peer's node; messages of a process to names; or its messages to a process or port.
 pub data Bound : Type 0 where
   Unread : Bound
   Void : Bound
   FromNode : Bound
-  ToNames : (from : Identifier) → Bound
+  ToNames : (from : ProcessId) → Bound
   ToTarget : (from : ProcessId) (to : Target) → Bound
 
 -- a connection that arrived, from this peer
