@@ -1,5 +1,5 @@
 -- What a host keeps: its endpoints, their links, and its sockets.
-use Rattle.std.specs.Prelude.{ℕ, Bool, List, Option, ◌×◌}
+use Rattle.std.specs.Prelude.{ℕ, Bool, List, Option}
 use Rattle.ch_base.specs.declared.address.Address.{Address}
 use Rattle.ch_wire.specs.declared.frame.Frame.{Frame}
 use Rattle.ch_reader.specs.declared.item.Expected.{Expected}

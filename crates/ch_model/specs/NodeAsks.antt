@@ -53,8 +53,8 @@ unfoldable pub spawn_arrives : NodeState → Ref → List ℕ → List ℕ → D
 spawn_arrives node question label args = do
   made ← make_of node.mail
   noting (notes.Made (process_id node made.0) (Some (origin_of question label))) (with_process node made.1 args)
-    and_then (λ n. fail_unlabelled n label made.0)
-    and_then (λ n. tell_spawned n question (process_id n made.0))
+      and_then (λ n. fail_unlabelled n label made.0)
+      and_then (λ n. tell_spawned n question (process_id n made.0))
 
 -- ---- a question for a name
 

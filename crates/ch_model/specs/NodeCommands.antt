@@ -68,4 +68,3 @@ unfoldable pub fall_of : NodeState → ℕ → Answered
 fall_of node by = do
   text ← falling node by
   stopping (over node by (Exception text))
-

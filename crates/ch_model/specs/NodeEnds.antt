@@ -37,7 +37,7 @@ unfoldable pub over : NodeState → ℕ → Reason → Done
 over node number reason = do
   mail ← or_unchanged node.mail (end_of node.mail number reason)
   doing (farewell node number reason (ended_of node.watches number).0.names) (bereft node mail (ended_of node.watches number).1 number)
-    and_then (λ n. each_in_turn (λ watch m. tell_end m watch reason) (ended_of node.watches number).0.watches n)
+      and_then (λ n. each_in_turn (λ watch m. tell_end m watch reason) (ended_of node.watches number).0.watches n)
 
 -- ---- the node is shut
 

@@ -42,7 +42,7 @@ unfoldable pub watch : NodeState → ℕ → Kind → ProcessId → Done
 watch node by kind target = do
   opened ← watch_of node.watches by kind (ends.Process target)
   noting (notes.Watch (reference_to node opened.0) (process_id node by) target kind) (record node { watches = opened.1 })
-    and_then (λ n. ask n target.node (watch_message kind (reference_to node opened.0) target))
+      and_then (λ n. ask n target.node (watch_message kind (reference_to node opened.0) target))
 
 -- a process monitors another, or links itself to it
 unfoldable pub watch_by : NodeState → ℕ → Kind → ProcessId → Room → Answered
@@ -59,7 +59,7 @@ unwatch_by node by given room = do
   roomy ← not_full node (node_of waiting.target) room
   closed ← watching (unwatch_of node.watches by given.number)
   stopping (noting (notes.Unwatch given) (record node { watches = closed.1 })
-    and_then (λ n. ask n (node_of waiting.target) (unwatch_message waiting.kind given)))
+      and_then (λ n. ask n (node_of waiting.target) (unwatch_message waiting.kind given)))
 
 -- ---- exits, spawns and names
 
@@ -79,7 +79,7 @@ unfoldable pub question : NodeState → ℕ → Kind → Address → (Ref → No
 question node by kind at asked = do
   opened ← watch_of node.watches by kind (ends.Node at)
   doing (asked_note node by at (reference_to node opened.0)) (record node { watches = opened.1 })
-    and_then (λ n. ask n at (asked (reference_to node opened.0)))
+      and_then (λ n. ask n at (asked (reference_to node opened.0)))
 
 -- a process has another made at a node
 unfoldable pub spawn_by : NodeState → ℕ → Address → Closure → Room → Answered

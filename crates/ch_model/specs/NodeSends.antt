@@ -85,7 +85,7 @@ unfoldable pub say : NodeState → Pair → Message → Done
 say node pair said = do
   index ← growing pair.index
   noting (notes.Said (process_id node pair.by) pair.to pair.epoch index said) (keeping node (with_said pair))
-    and_then (λ n. carry n (with_said pair) said (weight_of pair.epoch index))
+      and_then (λ n. carry n (with_said pair) said (weight_of pair.epoch index))
 
 -- ---- a pair is reconnected
 

@@ -1,5 +1,5 @@
 -- What the world of a journal is: names, hosts with their nodes, and sockets as two lists of bytes.
-use Rattle.std.specs.Prelude.{ℕ, Bool, List, Option, ◌×◌}
+use Rattle.std.specs.Prelude.{ℕ, Bool, List, Option}
 use Rattle.ch_base.specs.declared.address.Address.{Address}
 use Rattle.ch_model.specs.declared.name.SockName.{SockName}
 use Rattle.ch_model.specs.declared.step.Place.{Place}
