@@ -10,7 +10,7 @@ use Rattle.ch_static.specs.declared.target.Target.{Target}
 use Rattle.ch_static.specs.declared.target.Target.TheVariants as targets
 use Rattle.ch_model.specs.declared.command.CommandError.{CommandError}
 use Rattle.ch_model.specs.declared.command.CommandError.TheVariants.{Unknown, Dead, Hale, Long, Full, Spent}
-use Rattle.ch_model.specs.NodeState.{NodeState, Pair, Mark, Unopened, Opened, Broken}
+use Rattle.ch_model.specs.NodeState.{NodeState, Pair, Mark, Unopened, Broken}
 use Rattle.ch_model.specs.NodeActs.{◌>>=◌}
 use Rattle.ch_model.specs.NodeIds.{is_here, life_here, is_port_here, target_at}
 use Rattle.ch_model.specs.NodeConnections.{conn_to}
