@@ -4,3 +4,6 @@ pub mod Crossing
 pub mod Losses
 pub mod Watches
 pub mod Strangers
+pub mod WrongDelivery
+pub mod WrongLinks
+pub mod WrongNotices

@@ -5,3 +5,7 @@ pub mod Crossing
 pub mod Losses
 pub mod Watches
 pub mod Strangers
+pub mod WrongParts
+pub mod WrongDelivery
+pub mod WrongLinks
+pub mod WrongNotices
