@@ -4,6 +4,7 @@ pub mod Crossing
 pub mod Losses
 pub mod Watches
 pub mod Strangers
+pub mod Refused
 pub mod WrongDelivery
 pub mod WrongLinks
 pub mod WrongNotices

@@ -5,6 +5,7 @@ pub mod Crossing
 pub mod Losses
 pub mod Watches
 pub mod Strangers
+pub mod Refused
 pub mod WrongParts
 pub mod WrongDelivery
 pub mod WrongLinks
