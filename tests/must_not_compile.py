@@ -82,7 +82,7 @@ def main():
             print(told, "the sending end isn't packed", sep="\n")
             return 1
         packs, told = tried(folder, "_receive")
-        if packs or "Typed" not in told or "ReceivePort" not in told:
+        if packs or "`ReceivePort<u32>: Typed` is not satisfied" not in told:
             print(told, "the receiving end isn't refused for its type", sep="\n")
             return 1
     print("ok: a send port is packed, and a receive port doesn't compile")

@@ -1,7 +1,7 @@
-//! Copies of commands, of every kind.
+//! Copies of commands, with targets of each kind.
 
 use ch_base::{Address, Text};
-use ch_ident::{Message, Name, ProcessId, Ref};
+use ch_ident::{Message, Name, ProcessId};
 use ch_static::{Closure, Command, Target};
 use std::alloc::Global;
 use std::process::Abort;
@@ -31,10 +31,19 @@ fn text(alloc: Global) -> Result<Text, Fail> {
     Ok(text)
 }
 
-fn is_copied(rt: &impl Abort, alloc: Global, command: &Command) -> Result<(), Fail> {
+fn spelled(alloc: Global, command: &Command) -> Result<String, Fail> {
+    let text = format!(in alloc; "{command:?}")?;
+    Ok(text)
+}
+
+fn copied(alloc: Global, command: &Command) -> Result<String, Fail> {
     let copy = command.copy()?;
-    let copied = format!(in alloc; "{copy:?}")?;
-    let wanted = format!(in alloc; "{command:?}")?;
+    spelled(alloc, &copy)
+}
+
+fn is_copied(rt: &impl Abort, alloc: Global, command: &Command) -> Result<(), Fail> {
+    let copied = copied(alloc, command)?;
+    let wanted = spelled(alloc, command)?;
     assert_eq!(rt; copied, wanted);
     Ok(())
 }
@@ -57,49 +66,8 @@ fn an_again_is_copied(rt: HostRuntime) -> Result<(), Fail> {
 }
 
 #[test]
-fn commands_on_the_own_process_are_copied(rt: HostRuntime) -> Result<(), Fail> {
-    is_copied(&rt, rt.alloc(), &Command::OpenPort)?;
-    is_copied(&rt, rt.alloc(), &Command::Take { port: 3 })?;
-    is_copied(&rt, rt.alloc(), &Command::End)?;
-    is_copied(&rt, rt.alloc(), &Command::Fall)
-}
-
-#[test]
-fn a_failure_is_copied(rt: HostRuntime) -> Result<(), Fail> {
-    let text = text(rt.alloc())?;
-    is_copied(&rt, rt.alloc(), &Command::Fail { text })
-}
-
-#[test]
-fn a_receive_is_copied(rt: HostRuntime) -> Result<(), Fail> {
-    let mark = name(rt.alloc())?;
-    is_copied(&rt, rt.alloc(), &Command::Receive { mark })
-}
-
-#[test]
-fn a_monitor_is_copied(rt: HostRuntime) -> Result<(), Fail> {
-    let target = process(rt.alloc())?;
-    is_copied(&rt, rt.alloc(), &Command::Monitor { target })
-}
-
-#[test]
-fn a_link_is_copied(rt: HostRuntime) -> Result<(), Fail> {
-    let target = process(rt.alloc())?;
-    is_copied(&rt, rt.alloc(), &Command::Link { target })
-}
-
-#[test]
-fn an_unwatch_is_copied(rt: HostRuntime) -> Result<(), Fail> {
-    let node = node(rt.alloc())?;
-    let watch = Ref { node, number: 4 };
-    is_copied(&rt, rt.alloc(), &Command::Unwatch { watch })
-}
-
-#[test]
-fn an_exit_is_copied(rt: HostRuntime) -> Result<(), Fail> {
-    let target = process(rt.alloc())?;
-    let text = text(rt.alloc())?;
-    is_copied(&rt, rt.alloc(), &Command::Exit { target, text })
+fn a_take_is_copied(rt: HostRuntime) -> Result<(), Fail> {
+    is_copied(&rt, rt.alloc(), &Command::Take { port: 3 })
 }
 
 #[test]
@@ -116,18 +84,6 @@ fn a_spawn_is_copied(rt: HostRuntime) -> Result<(), Fail> {
     let args = text(rt.alloc())?;
     let closure = Closure { label, args };
     is_copied(&rt, rt.alloc(), &Command::Spawn { at, closure })
-}
-
-#[test]
-fn a_registering_is_copied(rt: HostRuntime) -> Result<(), Fail> {
-    let name = name(rt.alloc())?;
-    is_copied(&rt, rt.alloc(), &Command::Register { name })
-}
-
-#[test]
-fn an_unregistering_is_copied(rt: HostRuntime) -> Result<(), Fail> {
-    let name = name(rt.alloc())?;
-    is_copied(&rt, rt.alloc(), &Command::Unregister { name })
 }
 
 #[test]
