@@ -31,13 +31,13 @@ one_message_is = record {
       target_first = refl;
       dial_while_down = refl;
       dial_once = refl;
-      dial_in_order = refl
+      dial_in_order = refl;
     };
     life = record { numbered = refl; dooms_live = refl; dooms_caused = refl; over_once = refl; ends_caused = refl; dead_rest = refl };
     notices = record { of_open = refl; of_what_occurred = refl; truly_absent = refl; dooms_owners = refl; all_at_breaks = refl };
     references = record { next_number = refl; with_label = refl; one_made = refl; one_spawned = refl; spawned_the_made = refl; one_found = refl; found_what_stood = refl };
     names = record { free = refl; standing = refl; falls = refl };
-    mailboxes = record { from_mailboxes = refl; from_ports = refl }
+    mailboxes = record { from_mailboxes = refl; from_ports = refl };
   };
   answers = record { marked = refl; answered = refl; of_done_lines = refl; own_first = refl; settled_last = refl; in_place = refl; settle_feeds_all = refl };
   accounted_for = record {
@@ -50,18 +50,18 @@ one_message_is = record {
       true_ends = refl;
       read_requests = refl;
       read_answers = refl;
-      accepted_next = refl
+      accepted_next = refl;
     };
     of_messages = record { true_payloads = refl; got_by_bytes = refl; in_order_written = refl };
-    of_nodes = record { caused = refl; absent = refl; told = refl; answered = refl; made = refl; doomed = refl }
+    of_nodes = record { caused = refl; absent = refl; told = refl; answered = refl; made = refl; doomed = refl };
   };
   one_live_socket = refl;
   bundle = refl;
   whole = record {
     delivered = refl;
     notified = record { told = refl; answered = refl; doomed = refl };
-    at_rest = (record { none_pending = refl; all_read = refl; no_timer = refl; up_alike = refl }, tt)
-  }
+    at_rest = (record { none_pending = refl; all_read = refl; no_timer = refl; up_alike = refl }, tt);
+  };
 }
 
 -- this one is as promised
@@ -81,13 +81,13 @@ replaced_is = record {
       target_first = refl;
       dial_while_down = refl;
       dial_once = refl;
-      dial_in_order = refl
+      dial_in_order = refl;
     };
     life = record { numbered = refl; dooms_live = refl; dooms_caused = refl; over_once = refl; ends_caused = refl; dead_rest = refl };
     notices = record { of_open = refl; of_what_occurred = refl; truly_absent = refl; dooms_owners = refl; all_at_breaks = refl };
     references = record { next_number = refl; with_label = refl; one_made = refl; one_spawned = refl; spawned_the_made = refl; one_found = refl; found_what_stood = refl };
     names = record { free = refl; standing = refl; falls = refl };
-    mailboxes = record { from_mailboxes = refl; from_ports = refl }
+    mailboxes = record { from_mailboxes = refl; from_ports = refl };
   };
   answers = record { marked = refl; answered = refl; of_done_lines = refl; own_first = refl; settled_last = refl; in_place = refl; settle_feeds_all = refl };
   accounted_for = record {
@@ -100,18 +100,18 @@ replaced_is = record {
       true_ends = refl;
       read_requests = refl;
       read_answers = refl;
-      accepted_next = refl
+      accepted_next = refl;
     };
     of_messages = record { true_payloads = refl; got_by_bytes = refl; in_order_written = refl };
-    of_nodes = record { caused = refl; absent = refl; told = refl; answered = refl; made = refl; doomed = refl }
+    of_nodes = record { caused = refl; absent = refl; told = refl; answered = refl; made = refl; doomed = refl };
   };
   one_live_socket = refl;
   bundle = refl;
   whole = record {
     delivered = refl;
     notified = record { told = refl; answered = refl; doomed = refl };
-    at_rest = (record { none_pending = refl; all_read = refl; no_timer = refl; up_alike = refl }, (record { none_pending = refl; all_read = refl; no_timer = refl; up_alike = refl }, (record { none_pending = refl; all_read = refl; no_timer = refl; up_alike = refl }, tt)))
-  }
+    at_rest = (record { none_pending = refl; all_read = refl; no_timer = refl; up_alike = refl }, (record { none_pending = refl; all_read = refl; no_timer = refl; up_alike = refl }, (record { none_pending = refl; all_read = refl; no_timer = refl; up_alike = refl }, tt)));
+  };
 }
 
 -- repeats after reconnect

@@ -86,7 +86,7 @@ abbrev pub answers_question : List Line → List Entry → List ℕ → List ℕ
 answers_question journal log x y payload (entries.Asked question by at) =
     bytes_eq by.node y && bytes_eq at x
     && once (λ moment. has_read journal moment y x (asking_message journal moment question)
-        && some_and (answers_as_stood journal moment question payload) (line_of_reference journal moment question)) log
+    && some_and (answers_as_stood journal moment question payload) (line_of_reference journal moment question)) log
 answers_question journal log x y payload entry = false
 
 -- the payload of a node message of x towards y has a cause before it

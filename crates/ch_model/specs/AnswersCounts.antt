@@ -97,7 +97,7 @@ begins_epoch log what = false
 abbrev pub awaits_answer : List Entry → List ℕ → SockName → Bool
 awaits_answer log x sock =
     nat_lt (count_by (bytes_eq (frame_spelling frames.ProbeAck)) (read_pieces log sock (end_of x sock)))
-        (count_by (bytes_eq (frame_spelling frames.Probe)) (writings log sock (end_of x sock)))
+    (count_by (bytes_eq (frame_spelling frames.Probe)) (writings log sock (end_of x sock)))
 
 -- The timer of x for y runs: x isn't shut, and it isn't up and has dialed since its last break, or is up and awaits the answer to a probe.
 abbrev pub timer_runs : List Entry → List ℕ → List ℕ → Bool
