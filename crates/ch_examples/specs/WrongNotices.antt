@@ -13,7 +13,7 @@ use Rattle.ch_model.specs.declared.entry.Entry.{Entry}
 use Rattle.ch_model.specs.declared.entry.Entry.TheVariants as entries
 use Rattle.ch_model.specs.declared.line.Line.{Line}
 use Rattle.ch_model.specs.declared.line.What.TheVariants as lines
-use Rattle.ch_examples.specs.WrongParts.{b, a0, b0, at_a, at_b, b0_id, first, ab, journal_of, done, made, links, opens, tells, loses, hears_loss}
+use Rattle.ch_examples.specs.WrongParts.{b, a0, b0, at_a, at_b, b0_id, first, ab, journal_of, done, made, links, opens, tells, loses, hears_loss, says_back, gets_back}
 
 -- the monitor, the end and the loss, with a settle after each
 abbrev pub monitored : List Line
@@ -83,3 +83,11 @@ never_answered =
     made ++ done 6 ∷ entries.Asked first a0 b ∷ entries.Dial (ab 0) ∷ done 7
     ∷ links (ab 0) ++ opens (ab 0) O a_to_b ++ tells (ab 0) O (messages.Spawn first_id (codes "w") []) ∷ entries.Fed (ab 0) T 57
     ∷ entries.Made b1 (Some first) (Some (codes "w")) ∷ entries.Over b1 (reasons.Exception (codes "unknown label")) ∷ entries.Settled ∷ []
+
+-- b.0 says something to a.0 and ends, and a.0 gets it before it is told the end
+abbrev pub told_last : List Entry
+told_last = watched ++ done 8 ∷ says_back 2 ∷ done 9 ∷ entries.Over b0 reasons.Normal ∷ done 10 ∷ gets_back ∷ entries.Told first reasons.Normal ∷ []
+
+-- a.0 is told the end first
+abbrev pub told_before : List Entry
+told_before = watched ++ done 8 ∷ says_back 2 ∷ done 9 ∷ entries.Over b0 reasons.Normal ∷ done 10 ∷ entries.Told first reasons.Normal ∷ gets_back ∷ []
