@@ -80,7 +80,7 @@ one_message_sharper = record {
   opener_up_first = refl;
   target_number = refl;
   got_at_once = refl;
-  shut_is_down = refl
+  shut_is_down = refl;
 }
 
 -- this one is as promised
@@ -148,7 +148,7 @@ replaced_sharper = record {
   opener_up_first = refl;
   target_number = refl;
   got_at_once = refl;
-  shut_is_down = refl
+  shut_is_down = refl;
 }
 
 -- repeats after reconnect

@@ -80,7 +80,7 @@ crossed_sharper = record {
   opener_up_first = refl;
   target_number = refl;
   got_at_once = refl;
-  shut_is_down = refl
+  shut_is_down = refl;
 }
 
 -- accepts both crossed requests

@@ -79,7 +79,7 @@ monitored_sharper = record {
   opener_up_first = refl;
   target_number = refl;
   got_at_once = refl;
-  shut_is_down = refl
+  shut_is_down = refl;
 }
 
 -- tells twice
