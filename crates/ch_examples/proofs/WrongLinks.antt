@@ -1,5 +1,5 @@
 -- The right race is as promised, and each wrong one is refused by the clause that it goes against.
-use Rattle.std.specs.Prelude.{◌≡◌, Bool, true, false}
+use Rattle.std.specs.Prelude.{◌≡◌, true, false}
 use Rattle.std.specs.Fmt.{digits}
 use Rattle.std.proofs.Common.{refl}
 use Rattle.ch_base.specs.Addresses.{read_address, host_at, port_at}
@@ -8,11 +8,14 @@ use Rattle.ch_model.specs.Links.{FollowsLinkDiscipline}
 use Rattle.ch_model.specs.LiveSockets.{OneLiveSocket, Bundle}
 use Rattle.ch_model.specs.Whole.{DeliversWhole}
 use Rattle.ch_model.specs.Lawful.{IsPromised}
+use Rattle.ch_model.specs.Sharper.{IsSharper}
 use Rattle.ch_examples.specs.WrongLinks.{crossed, crossed_log, both_accepted, accepted_over, dropped, dropped_by_breaks}
 
+-- a test that fails doesn't pass
 is_not : false ≡ true → ⊥
 is_not h = cc
 
+-- this one is as promised
 crossed_is : IsPromised crossed crossed_log
 unfolding digits read_address host_at port_at
 crossed_is = record {
@@ -60,6 +63,24 @@ crossed_is = record {
     notified = record { told = refl; answered = refl; doomed = refl };
     at_rest = (record { none_pending = refl; all_read = refl; no_timer = refl; up_alike = refl }, tt);
   };
+}
+
+-- it is sharper too
+crossed_sharper : IsSharper crossed crossed_log
+unfolding digits read_address host_at port_at
+crossed_sharper = record {
+  down_breaks = refl;
+  settle_as_lines = refl;
+  unlabelled_ends = refl;
+  own_spawn_answered = refl;
+  made_by_line = refl;
+  named_by_line = refl;
+  next_port = refl;
+  no_stranger_up = refl;
+  opener_up_first = refl;
+  target_number = refl;
+  got_at_once = refl;
+  shut_is_down = refl;
 }
 
 -- accepts both crossed requests

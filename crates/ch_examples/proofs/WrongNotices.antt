@@ -1,16 +1,20 @@
 -- The right notice is as promised, and each wrong one is refused by the clause that it goes against.
-use Rattle.std.specs.Prelude.{◌≡◌, Bool, true, false}
+use Rattle.std.specs.Prelude.{◌≡◌, true, false}
 use Rattle.std.specs.Fmt.{digits}
 use Rattle.std.proofs.Common.{refl}
 use Rattle.ch_base.specs.Addresses.{read_address, host_at, port_at}
 use Rattle.ch_model.specs.Watches.{HasLawfulNotices}
 use Rattle.ch_model.specs.WholeNotice.{NotifiesWhole}
 use Rattle.ch_model.specs.Lawful.{IsPromised}
-use Rattle.ch_examples.specs.WrongNotices.{monitored, monitored_log, told_twice, told_a_loss, told_another_end, never_told, never_told_at_break, spawns, never_answered}
+use Rattle.ch_model.specs.Sharper.{IsSharper}
+use Rattle.ch_model.specs.EndsToldLast.{EndsToldLast}
+use Rattle.ch_examples.specs.WrongNotices.{monitored, monitored_log, told_twice, told_a_loss, told_another_end, never_told, never_told_at_break, spawns, never_answered, told_last, told_before}
 
+-- a test that fails doesn't pass
 is_not : false ≡ true → ⊥
 is_not h = cc
 
+-- this one is as promised
 monitored_is : IsPromised monitored monitored_log
 unfolding digits read_address host_at port_at
 monitored_is = record {
@@ -60,6 +64,24 @@ monitored_is = record {
   };
 }
 
+-- it is sharper too
+monitored_sharper : IsSharper monitored monitored_log
+unfolding digits read_address host_at port_at
+monitored_sharper = record {
+  down_breaks = refl;
+  settle_as_lines = refl;
+  unlabelled_ends = refl;
+  own_spawn_answered = refl;
+  made_by_line = refl;
+  named_by_line = refl;
+  next_port = refl;
+  no_stranger_up = refl;
+  opener_up_first = refl;
+  target_number = refl;
+  got_at_once = refl;
+  shut_is_down = refl;
+}
+
 -- tells twice
 not_told_twice : HasLawfulNotices told_twice → ⊥
 unfolding digits read_address host_at port_at
@@ -89,3 +111,11 @@ not_never_told_at_break h = is_not h.all_at_breaks
 not_never_answered : NotifiesWhole spawns never_answered → ⊥
 unfolding digits read_address host_at port_at
 not_never_answered h = is_not h.answered
+
+-- an end may be told after what was said before it
+end_last : EndsToldLast told_last
+end_last = refl
+
+-- tells an end before what was said before it
+not_end_first : EndsToldLast told_before → ⊥
+not_end_first h = is_not h
