@@ -12,10 +12,10 @@ use Rattle.ch_ident.specs.declared.message.Message.{Message}
 use Rattle.ch_mail.specs.Queue.{first_that, after_passing}
 use Rattle.ch_model.specs.declared.name.ProcName.{ProcName}
 use Rattle.ch_model.specs.declared.entry.Entry.{Entry}
-use Rattle.ch_model.specs.Counts.{same_process}
-use Rattle.ch_model.specs.Delivery.{last_is}
-use Rattle.ch_model.specs.Mailboxes.{said_by, first_some, message_of, body_of_mark, entering, entered_after, entered}
-use Rattle.ch_model.specs.Lawful.{AreLawfulAfter}
+use Rattle.ch_laws_one_node.specs.Counts.{same_process}
+use Rattle.ch_laws_one_node.specs.Delivery.{last_is}
+use Rattle.ch_laws_one_node.specs.Mailboxes.{said_by, first_some, message_of, body_of_mark, entering, entered_after, entered}
+use Rattle.ch_laws_one_node.specs.Lawful.{AreLawfulAfter}
 
 -- ---- tests and counts
 

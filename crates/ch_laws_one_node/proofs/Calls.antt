@@ -14,12 +14,12 @@ use Rattle.ch_mail.specs.Lives.{is_live, is_over}
 use Rattle.ch_mail.specs.Queue.{first_that, first_of_mark}
 use Rattle.ch_mail.specs.Mail as mail
 use Rattle.ch_mail.specs.Mail.{newborn, there_or, waiting_in, appended, given_to, taken_from, ended, make_of, life_of, put_of, take_of, end_of, last_u32, last_u64}
-use Rattle.ch_model.specs.declared.note.Note.{Note}
-use Rattle.ch_model.specs.declared.note.Note.TheVariants.{Made, Said, Got, Took, Over}
-use Rattle.ch_model.specs.declared.command.CommandError.{CommandError}
-use Rattle.ch_model.specs.declared.command.CommandError.TheVariants.{Unknown, Dead, Empty, Worn}
-use Rattle.ch_model.specs.States.{NodeState}
-use Rattle.ch_model.specs.Node.{◌>>=◌, mailed, acting, process_id, is_own, made_or_unknown, target_of, next_index, with_said, growing, delivered, got_at_once, send_of, receive_of, finish_of, made_by, node_make}
+use Rattle.ch_one_node.specs.declared.note.Note.{Note}
+use Rattle.ch_one_node.specs.declared.note.Note.TheVariants.{Made, Said, Got, Took, Over}
+use Rattle.ch_one_node.specs.declared.command.CommandError.{CommandError}
+use Rattle.ch_one_node.specs.declared.command.CommandError.TheVariants.{Unknown, Dead, Empty, Worn}
+use Rattle.ch_one_node.specs.States.{NodeState}
+use Rattle.ch_one_node.specs.Node.{◌>>=◌, mailed, acting, process_id, is_own, made_or_unknown, target_of, next_index, with_said, growing, delivered, got_at_once, send_of, receive_of, finish_of, made_by, node_make}
 use Rattle.ch_laws_one_node.proofs.Appending.{equal_bytes, equal_numbers}
 use Rattle.ch_laws_one_node.proofs.Shows.{new_process}
 

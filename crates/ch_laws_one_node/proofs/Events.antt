@@ -13,23 +13,24 @@ use Rattle.ch_mail.specs.Lives.{is_live, is_over}
 use Rattle.ch_mail.specs.Queue.{first_that}
 use Rattle.ch_mail.specs.Mail.{waiting_in, last_u32, last_u64}
 use Rattle.ch_model.specs.declared.name.ProcName.{ProcName}
-use Rattle.ch_model.specs.declared.note.Note.{Note}
+use Rattle.ch_one_node.specs.declared.note.Note.{Note}
+use Rattle.ch_model.specs.declared.name.TargetName.TheVariants as targets
 use Rattle.ch_model.specs.declared.entry.Entry.{Entry}
 use Rattle.ch_model.specs.declared.entry.Entry.TheVariants.{Line, Made, Said, Got, Took, Over}
 use Rattle.ch_model.specs.declared.entry.Verdict.{Verdict}
 use Rattle.ch_model.specs.declared.entry.Verdict.TheVariants as verdicts
 use Rattle.ch_model.specs.declared.line.What.{What}
 use Rattle.ch_model.specs.declared.line.What.TheVariants as lines
-use Rattle.ch_model.specs.declared.command.CommandError.TheVariants as errors
-use Rattle.ch_model.specs.States.{NodeState, World}
-use Rattle.ch_model.specs.Node.{process_id, next_index, with_said, send_of, receive_of, finish_of, node_make}
-use Rattle.ch_model.specs.World.{entries_of}
-use Rattle.ch_model.specs.Counts.{gets, is_made_in, is_over_in, taken_in}
-use Rattle.ch_model.specs.Life.{Lives}
-use Rattle.ch_model.specs.Delivery.{is_the_said, IsLawfulSaid, IsLawfulReceipt}
-use Rattle.ch_model.specs.Mailboxes.{message_of, said_by, first_some, entered}
-use Rattle.ch_model.specs.Answers.{answer_acting, answer_over, IsDone}
-use Rattle.ch_model.specs.Lawful.{AreLawfulAfter}
+use Rattle.ch_one_node.specs.declared.command.CommandError.TheVariants as errors
+use Rattle.ch_one_node.specs.States.{NodeState, World}
+use Rattle.ch_one_node.specs.Node.{process_id, next_index, with_said, send_of, receive_of, finish_of, node_make}
+use Rattle.ch_one_node.specs.World.{entries_of}
+use Rattle.ch_laws_one_node.specs.Counts.{gets, is_made_in, is_over_in, taken_in}
+use Rattle.ch_laws_one_node.specs.Life.{Lives}
+use Rattle.ch_laws_one_node.specs.Delivery.{is_the_said, IsLawfulSaid, IsLawfulReceipt}
+use Rattle.ch_laws_one_node.specs.Mailboxes.{message_of, said_by, first_some, entered}
+use Rattle.ch_laws_one_node.specs.Answers.{answer_acting, answer_over, IsDone}
+use Rattle.ch_laws_one_node.specs.Lawful.{AreLawfulAfter}
 use Rattle.ch_laws_one_node.proofs.Appending.{at, any_now, count_same, last_now, message_more, bodies, IsTaken, HasTaken, has_taken, place_more, place_set, length_set, length_more, first_left}
 use Rattle.ch_laws_one_node.proofs.Shows.{is_over_at, Mailed, Account, Shows, AllGot, put, raise, reheld, renumbered, regot, line_shows, line_got, new_process, made_shows, made_got, over_shows, over_got, the_said, said_shows, got_shows, took_shows, took_got, said_got_never, said_got_at_once}
 use Rattle.ch_laws_one_node.proofs.Calls.{Done, to_process, to_target, by_live, by_sender, send_is, of_found, taking, receive_is, finishing, ending, finish_is, making, make_is, said_next}
@@ -96,8 +97,8 @@ make_fine w before number h = subst (λ d. Fine w before number (lines.Proc w.na
   holds : Holds w.name w.node log
   holds = marked_holds w.name w.node before number verdicts.Ok h
 
-  shown : Shows w.name (length w.node.mail + 1) (λ i. slice_get (w.node.mail ++ new_process ∷ []) i) (λ i j. next_index w.node.pairs (i, j)) (log ++ Made (at w.name (length w.node.mail)) ∷ [])
-  shown = reheld w.name (length w.node.mail + 1) (put (length w.node.mail) new_process (λ i. slice_get w.node.mail i)) (λ i. slice_get (w.node.mail ++ new_process ∷ []) i) (λ i j. next_index w.node.pairs (i, j)) (log ++ Made (at w.name (length w.node.mail)) ∷ [])
+  shown : Shows w.name (length w.node.mail + 1) (λ i. slice_get (w.node.mail ++ new_process ∷ []) i) (λ i j. next_index w.node.pairs (i, j)) (log ++ Made (at w.name (length w.node.mail)) None None ∷ [])
+  shown = reheld w.name (length w.node.mail + 1) (put (length w.node.mail) new_process (λ i. slice_get w.node.mail i)) (λ i. slice_get (w.node.mail ++ new_process ∷ []) i) (λ i j. next_index w.node.pairs (i, j)) (log ++ Made (at w.name (length w.node.mail)) None None ∷ [])
       (λ i. sym (place_more w.node.mail new_process i))
       (made_shows w.name (length w.node.mail) (λ i. slice_get w.node.mail i) (λ i j. next_index w.node.pairs (i, j)) log (slice_get_past w.node.mail (length w.node.mail) (same (length w.node.mail))) holds.shows) where
         same : (n : ℕ) → n ≤ n
@@ -110,7 +111,7 @@ make_fine w before number h = subst (λ d. Fine w before number (lines.Proc w.na
     done = (refl, tt, refl);
     lawful = (sym holds.shows.count_is, tt);
     holds = record {
-      shows = subst (λ n. Shows w.name n (λ i. slice_get (w.node.mail ++ new_process ∷ []) i) (λ i j. next_index w.node.pairs (i, j)) (log ++ Made (at w.name (length w.node.mail)) ∷ [])) (sym (length_more w.node.mail new_process)) shown;
+      shows = subst (λ n. Shows w.name n (λ i. slice_get (w.node.mail ++ new_process ∷ []) i) (λ i j. next_index w.node.pairs (i, j)) (log ++ Made (at w.name (length w.node.mail)) None None ∷ [])) (sym (length_more w.node.mail new_process)) shown;
       got = made_got w.name (λ i j. next_index w.node.pairs (i, j)) log (at w.name (length w.node.mail)) holds.got;
     };
   }
@@ -195,8 +196,8 @@ receive_fine w before number i mark h = subst (λ d. Fine w before number (lines
       tt,
     );
     holds = record {
-      shows = subst (λ n. Shows w.name n (λ k. slice_get (slice_set w.node.mail i (record p { mailbox = found.1 })) k) (λ i j. next_index w.node.pairs (i, j)) (log ++ Took (at w.name i) found.0.mark found.0.body ∷ [])) (sym (length_set w.node.mail i (record p { mailbox = found.1 })))
-          (reheld w.name (length w.node.mail) (put i (record p { mailbox = found.1 }) (λ k. slice_get w.node.mail k)) (λ k. slice_get (slice_set w.node.mail i (record p { mailbox = found.1 })) k) (λ i j. next_index w.node.pairs (i, j)) (log ++ Took (at w.name i) found.0.mark found.0.body ∷ [])
+      shows = subst (λ n. Shows w.name n (λ k. slice_get (slice_set w.node.mail i (record p { mailbox = found.1 })) k) (λ i j. next_index w.node.pairs (i, j)) (log ++ Took (at w.name i) None found.0.mark found.0.body ∷ [])) (sym (length_set w.node.mail i (record p { mailbox = found.1 })))
+          (reheld w.name (length w.node.mail) (put i (record p { mailbox = found.1 }) (λ k. slice_get w.node.mail k)) (λ k. slice_get (slice_set w.node.mail i (record p { mailbox = found.1 })) k) (λ i j. next_index w.node.pairs (i, j)) (log ++ Took (at w.name i) None found.0.mark found.0.body ∷ [])
           (λ k. sym (place_set w.node.mail i p (record p { mailbox = found.1 }) k is))
           (took_shows w.name (length w.node.mail) (λ k. slice_get w.node.mail k) (λ i j. next_index w.node.pairs (i, j)) log i p found.0 found.1 is of_its_mark holds.shows));
       got = took_got w.name (λ i j. next_index w.node.pairs (i, j)) log (at w.name i) found.0.mark found.0.body holds.got;
@@ -221,10 +222,10 @@ receive_fine w before number i mark h = subst (λ d. Fine w before number (lines
 abbrev pub answer_sending : List Entry → ProcName → Verdict
 answer_sending log to = if is_made_in log to then verdicts.Ok else verdicts.Unknown
 
-pub send_fine : (w : World) (before : List Entry) (number i j : ℕ) (m : Message) → Holds w.name w.node before → Fine w before number (lines.Send (at w.name i) (at w.name j) m.mark m.body) (send_of w.node i (process_id w.node j) m)
+pub send_fine : (w : World) (before : List Entry) (number i j : ℕ) (m : Message) → Holds w.name w.node before → Fine w before number (lines.Send (at w.name i) (targets.Process (at w.name j)) m.mark m.body) (send_of w.node i (process_id w.node j) m)
 send_fine w before number i j m h = subst (λ d. Fine w before number line d) (sym (send_is w.node i j m)) (by_held (slice_get w.node.mail i) refl) where
   line : What
-  line = lines.Send (at w.name i) (at w.name j) m.mark m.body
+  line = lines.Send (at w.name i) (targets.Process (at w.name j)) m.mark m.body
 
   log : List Entry
   log = marked before number verdicts.Ok
@@ -239,10 +240,10 @@ send_fine w before number i j m h = subst (λ d. Fine w before number line d) (s
   next p q = next_index w.node.pairs (p, q)
 
   said : Entry
-  said = Said (at w.name i) (at w.name j) 0 (next i j) m.mark m.body
+  said = Said (at w.name i) (targets.Process (at w.name j)) 0 (next i j) m.mark m.body
 
   got : Entry
-  got = Got (at w.name i) (at w.name j) 0 (next i j) (at w.name j)
+  got = Got (at w.name i) (targets.Process (at w.name j)) 0 (next i j) (Some (at w.name j))
 
   after : ℕ → ℕ → ℕ
   after p q = next_index (with_said w.node.pairs (i, j) (next i j + 1)) (p, q)

@@ -5,7 +5,8 @@ use Rattle.std.proofs.lemmas.List.{append-nil}
 use Rattle.ch_base.specs.AddressValues.{AddressValue}
 use Rattle.ch_base.specs.declared.memory.Stop.{Stop}
 use Rattle.ch_model.specs.declared.name.ProcName.{ProcName}
-use Rattle.ch_model.specs.declared.note.Note.{Note}
+use Rattle.ch_one_node.specs.declared.note.Note.{Note}
+use Rattle.ch_model.specs.declared.name.TargetName.TheVariants as targets
 use Rattle.ch_model.specs.declared.entry.Entry.{Entry}
 use Rattle.ch_model.specs.declared.entry.Entry.TheVariants as entries
 use Rattle.ch_model.specs.declared.entry.Verdict.{Verdict}
@@ -13,12 +14,13 @@ use Rattle.ch_model.specs.declared.entry.Verdict.TheVariants as verdicts
 use Rattle.ch_model.specs.declared.line.Line.{Line}
 use Rattle.ch_model.specs.declared.line.What.{What}
 use Rattle.ch_model.specs.declared.line.What.TheVariants.{Node, Proc, Send, Recv, End}
-use Rattle.ch_model.specs.declared.command.CommandError.TheVariants as errors
-use Rattle.ch_model.specs.States.{NodeState, World}
-use Rattle.ch_model.specs.Node.{process_id, new_node, send_of, receive_of, finish_of, node_make}
-use Rattle.ch_model.specs.World.{◌>>=◌, answered, entries_of, event_of, some_world, log_from, log_of}
-use Rattle.ch_model.specs.Answers.{answer_over, IsDone, HasAnswersAfter}
-use Rattle.ch_model.specs.Lawful.{AreLawfulAfter, IsLawful, IsOfNode, AreOfNode, IsOfOneNode}
+use Rattle.ch_one_node.specs.declared.command.CommandError.TheVariants as errors
+use Rattle.ch_one_node.specs.States.{NodeState, World}
+use Rattle.ch_one_node.specs.Node.{process_id, new_node, send_of, receive_of, finish_of, node_make}
+use Rattle.ch_one_node.specs.World.{◌>>=◌, answered, entries_of, event_of, some_world, log_from, log_of}
+use Rattle.ch_laws_one_node.specs.Answers.{answer_over, IsDone, HasAnswersAfter}
+use Rattle.ch_laws_one_node.specs.Lawful.{AreLawfulAfter, IsLawful}
+use Rattle.ch_laws_one_node.specs.OneNode.{IsOfNode, AreOfNode, IsOfOneNode}
 use Rattle.ch_laws_one_node.proofs.Appending.{at, lawful_append}
 use Rattle.ch_laws_one_node.proofs.Shows.{nothing_shows, nothing_got}
 use Rattle.ch_laws_one_node.proofs.Calls.{Done}
@@ -72,14 +74,14 @@ named : (p : ProcName) (node : List ℕ) → p.node ≡ node → at node p.count
 named p node h = ap (λ n. at n p.counter) (sym h)
 
 steps : (w : World) (before : List Entry) (number : ℕ) (what : What) (done : List Entry × World) → IsOfNode w.name what → Holds w.name w.node before → event_of w number what ≡ Ok done → Steps w before number what done
-steps w before number (Node name address unique) done of h is = absurd of
 steps w before number (Proc name) done of h is = steps_from w before number (Proc name) (node_make w.node) done h (subst (λ n. Fine w before number (Proc n) (node_make w.node)) (sym of) (make_fine w before number h)) is
-steps w before number (Send by to mark body) done of h is = steps_from w before number (Send by to mark body) given done h
-    (subst (λ p. Fine w before number (Send p to mark body) given) (named by w.name of.0) (subst (λ p. Fine w before number (Send (at w.name by.counter) p mark body) given) (named to w.name of.1) (send_fine w before number by.counter to.counter (record { mark = mark; body = body }) h))) is where
+steps w before number (Send by (targets.Process to) mark body) done of h is = steps_from w before number (Send by (targets.Process to) mark body) given done h
+    (subst (λ p. Fine w before number (Send p (targets.Process to) mark body) given) (named by w.name of.0) (subst (λ p. Fine w before number (Send (at w.name by.counter) (targets.Process p) mark body) given) (named to w.name of.1) (send_fine w before number by.counter to.counter (record { mark = mark; body = body }) h))) is where
       given : Done
       given = send_of w.node by.counter (process_id w.node to.counter) (record { mark = mark; body = body })
 steps w before number (Recv by mark) done of h is = steps_from w before number (Recv by mark) (receive_of w.node by.counter mark) done h (subst (λ p. Fine w before number (Recv p mark) (receive_of w.node by.counter mark)) (named by w.name of) (receive_fine w before number by.counter mark h)) is
 steps w before number (End by) done of h is = steps_from w before number (End by) (finish_of w.node by.counter) done h (subst (λ p. Fine w before number (End p) (finish_of w.node by.counter)) (named by w.name of) (end_fine w before number by.counter h)) is
+steps w before number what done of h is = absurd of
 
 -- ---- all lines
 
@@ -89,11 +91,11 @@ pub record Continues (before : List Entry) (journal : List Line) (log : List Ent
   pub answers : HasAnswersAfter before journal log
 
 answered_line : (before : List Entry) (number : ℕ) (what : What) (node : List ℕ) (others : List Line) (done after : List Entry) → IsOfNode node what → IsDone before what (answer_over before what) done → HasAnswersAfter (before ++ entries.Line number (answer_over before what) ∷ done) others after → HasAnswersAfter before (record { number = number; what = what } ∷ others) (entries.Line number (answer_over before what) ∷ done ++ after)
-answered_line before number (Node name address unique) node others done after of is rest = absurd of
 answered_line before number (Proc name) node others done after of is rest = (done, after, refl, is, rest)
-answered_line before number (Send by to mark body) node others done after of is rest = (done, after, refl, is, rest)
+answered_line before number (Send by (targets.Process to) mark body) node others done after of is rest = (done, after, refl, is, rest)
 answered_line before number (Recv by mark) node others done after of is rest = (done, after, refl, is, rest)
 answered_line before number (End by) node others done after of is rest = (done, after, refl, is, rest)
+answered_line before number what node others done after of is rest = absurd of
 
 abbrev pub Continuing : List Line → Type 0
 Continuing journal = (w : World) (before log : List Entry) → AreOfNode w.name journal → Holds w.name w.node before → log_from (Some w) journal ≡ Ok log → Continues before journal log
@@ -133,10 +135,7 @@ declared name address unique number rest log of (Ok more) rest_is is = subst (λ
 
 by_first : (number : ℕ) (what : What) (rest : List Line) (log : List Entry) → IsOfOneNode (record { number = number; what = what } ∷ rest) → log_of (record { number = number; what = what } ∷ rest) ≡ Ok log → IsLawful (record { number = number; what = what } ∷ rest) log
 by_first number (Node name address unique) rest log of is = declared name address unique number rest log of (log_from (Some (record { name = name; node = new_node address unique })) rest) refl is
-by_first number (Proc name) rest log of is = absurd of
-by_first number (Send by to mark body) rest log of is = absurd of
-by_first number (Recv by mark) rest log of is = absurd of
-by_first number (End by) rest log of is = absurd of
+by_first number what rest log of is = absurd of
 
 pub lawful_log : (journal : List Line) (log : List Entry) → IsOfOneNode journal → log_of journal ≡ Ok log → IsLawful journal log
 lawful_log [] log of is = subst (λ l. IsLawful [] l) (value_is [] log is) (record { entries = tt; answers = refl })

@@ -11,12 +11,13 @@ use Rattle.ch_mail.specs.declared.life.Life.TheVariants as lives
 use Rattle.ch_mail.specs.Lives.{is_live, is_over}
 use Rattle.ch_mail.specs.Process.{Process}
 use Rattle.ch_model.specs.declared.name.ProcName.{ProcName}
+use Rattle.ch_model.specs.declared.name.TargetName.TheVariants as targets
 use Rattle.ch_model.specs.declared.entry.Entry.{Entry}
 use Rattle.ch_model.specs.declared.entry.Entry.TheVariants.{Line, Made, Said, Got, Took, Over}
 use Rattle.ch_model.specs.declared.entry.Verdict.{Verdict}
-use Rattle.ch_model.specs.Counts.{same_process, makes, makes_on, ends, says, gets, takes, is_made_in, is_over_in, made_in, index_of, got_in, taken_in}
-use Rattle.ch_model.specs.Delivery.{is_the_said, gets_later}
-use Rattle.ch_model.specs.Mailboxes.{said_by, first_some, message_of, body_of_mark, entering, entered}
+use Rattle.ch_laws_one_node.specs.Counts.{same_process, makes, makes_on, ends, says, gets, takes, is_made_in, is_over_in, made_in, index_of, got_in, taken_in}
+use Rattle.ch_laws_one_node.specs.Delivery.{is_the_said, gets_later}
+use Rattle.ch_laws_one_node.specs.Mailboxes.{said_by, first_some, message_of, body_of_mark, entering, entered}
 use Rattle.ch_laws_one_node.proofs.Appending.{at, any_same, any_now, any_more, count_same, count_next, same_at, same_self, apart, equal_bytes, equal_numbers, message_more, entered_more, bodies, bodies_more, IsTaken, length_more}
 
 abbrev pub is_over_at : Option Process → Bool
@@ -137,20 +138,20 @@ line_got node next log number answer s = got_same node next log (Line number ans
 abbrev pub new_process : Process
 new_process = record { life = lives.Live; mailbox = []; ports = [] }
 
-pub made_shows : (node : List ℕ) (count : ℕ) (held : ℕ → Option Process) (next : ℕ → ℕ → ℕ) (log : List Entry) → held count ≡ None → Shows node count held next log → Shows node (count + 1) (put count new_process held) next (log ++ Made (at node count) ∷ [])
+pub made_shows : (node : List ℕ) (count : ℕ) (held : ℕ → Option Process) (next : ℕ → ℕ → ℕ) (log : List Entry) → held count ≡ None → Shows node count held next log → Shows node (count + 1) (put count new_process held) next (log ++ Made (at node count) None None ∷ [])
 made_shows node count held next log none s = record {
-  count_is = count_next (makes_on node) log (Made (at node count)) (equal_bytes node) ∙ ap (λ k. k + 1) s.count_is;
-  accounts = placed node (log ++ Made (at node count) ∷ []) count new_process held (record {
-    made = any_now (makes (at node count)) log (Made (at node count)) (same_self node count);
-    over = any_same (ends (at node count)) log (Made (at node count)) refl ∙ (s.accounts count).over ∙ ap is_over_at none;
+  count_is = count_next (makes_on node) log (Made (at node count) None None) (equal_bytes node) ∙ ap (λ k. k + 1) s.count_is;
+  accounts = placed node (log ++ Made (at node count) None None ∷ []) count new_process held (record {
+    made = any_now (makes (at node count)) log (Made (at node count) None None) (same_self node count);
+    over = any_same (ends (at node count)) log (Made (at node count) None None) refl ∙ (s.accounts count).over ∙ ap is_over_at none;
     undoomed = refl;
-    mailbox = λ word. mailed_same log (Made (at node count)) (at node count) word [] refl refl (subst (λ o. Mailed log (at node count) word (waiting o)) none ((s.accounts count).mailbox word));
-  }) (λ i h. account_same log (Made (at node count)) (at node i) (held i) (apart node i count h) refl (λ word. refl) (λ word. refl) (s.accounts i));
-  pairs = λ i j. pair_same log (Made (at node count)) (at node i) (at node j) (next i j) refl (λ k. refl) refl (s.pairs i j);
+    mailbox = λ word. mailed_same log (Made (at node count) None None) (at node count) word [] refl refl (subst (λ o. Mailed log (at node count) word (waiting o)) none ((s.accounts count).mailbox word));
+  }) (λ i h. account_same log (Made (at node count) None None) (at node i) (held i) (apart node i count h) refl (λ word. refl) (λ word. refl) (s.accounts i));
+  pairs = λ i j. pair_same log (Made (at node count) None None) (at node i) (at node j) (next i j) refl (λ k. refl) refl (s.pairs i j);
 }
 
-pub made_got : (node : List ℕ) (next : ℕ → ℕ → ℕ) (log : List Entry) (process : ProcName) → AllGot node next log → AllGot node next (log ++ Made process ∷ [])
-made_got node next log process s = got_same node next log (Made process) (λ p. refl) (λ p q. refl) s
+pub made_got : (node : List ℕ) (next : ℕ → ℕ → ℕ) (log : List Entry) (process : ProcName) → AllGot node next log → AllGot node next (log ++ Made process None None ∷ [])
+made_got node next log process s = got_same node next log (Made process None None) (λ p. refl) (λ p q. refl) s
 
 pub over_shows : (node : List ℕ) (count : ℕ) (held : ℕ → Option Process) (next : ℕ → ℕ → ℕ) (log : List Entry) (k : ℕ) (process : Process) (reason : Reason) → held k ≡ Some process → Shows node count held next log → Shows node count (put k (record process { life = lives.Over reason }) held) next (log ++ Over (at node k) reason ∷ [])
 over_shows node count held next log k process reason is s = record {
@@ -180,10 +181,10 @@ never true false = refl
 never false y = refl
 
 -- whether the entry is of this pair
-says_is : (node : List ℕ) (p q i j : ℕ) (k : ℕ) (mark body : List ℕ) → says (at node p) (at node q) 0 (Said (at node i) (at node j) 0 k mark body) ≡ (p == i && q == j)
+says_is : (node : List ℕ) (p q i j : ℕ) (k : ℕ) (mark body : List ℕ) → says (at node p) (at node q) 0 (Said (at node i) (targets.Process (at node j)) 0 k mark body) ≡ (p == i && q == j)
 says_is node p q i j k mark body = both (same_process (at node p) (at node i)) (same_process (at node q) (at node j)) ∙ ap (λ b. b && same_process (at node q) (at node j)) (same_at node p i) ∙ ap (λ b. p == i && b) (same_at node q j)
 
-gets_is : (node : List ℕ) (p q i j : ℕ) (k : ℕ) (receiver : ProcName) → gets (at node p) (at node q) 0 (Got (at node i) (at node j) 0 k receiver) ≡ (p == i && q == j)
+gets_is : (node : List ℕ) (p q i j : ℕ) (k : ℕ) (receiver : ProcName) → gets (at node p) (at node q) 0 (Got (at node i) (targets.Process (at node j)) 0 k (Some receiver)) ≡ (p == i && q == j)
 gets_is node p q i j k receiver = both (same_process (at node p) (at node i)) (same_process (at node q) (at node j)) ∙ ap (λ b. b && same_process (at node q) (at node j)) (same_at node p i) ∙ ap (λ b. p == i && b) (same_at node q j)
 
 and_fourth : (x y z : Bool) → (x && y && true && z) ≡ (x && y && z)
@@ -191,10 +192,10 @@ and_fourth true true z = refl
 and_fourth true false z = refl
 and_fourth false y z = refl
 
-pub the_said_is : (node : List ℕ) (p q i j : ℕ) (n k : ℕ) (mark body : List ℕ) → is_the_said (at node p) (at node q) 0 n (Said (at node i) (at node j) 0 k mark body) ≡ (p == i && q == j && n == k)
+pub the_said_is : (node : List ℕ) (p q i j : ℕ) (n k : ℕ) (mark body : List ℕ) → is_the_said (at node p) (at node q) 0 n (Said (at node i) (targets.Process (at node j)) 0 k mark body) ≡ (p == i && q == j && n == k)
 the_said_is node p q i j n k mark body = and_fourth (same_process (at node p) (at node i)) (same_process (at node q) (at node j)) (n == k) ∙ ap (λ b. b && same_process (at node q) (at node j) && n == k) (same_at node p i) ∙ ap (λ b. p == i && b && n == k) (same_at node q j)
 
-pub the_said : (node : List ℕ) (i j : ℕ) (k : ℕ) (mark body : List ℕ) → is_the_said (at node i) (at node j) 0 k (Said (at node i) (at node j) 0 k mark body) ≡ true
+pub the_said : (node : List ℕ) (i j : ℕ) (k : ℕ) (mark body : List ℕ) → is_the_said (at node i) (at node j) 0 k (Said (at node i) (targets.Process (at node j)) 0 k mark body) ≡ true
 the_said node i j k mark body = the_said_is node i j i j k k mark body ∙ ap (λ b. b && j == j && k == k) (equal_numbers i) ∙ ap (λ b. b && k == k) (equal_numbers j) ∙ equal_numbers k
 
 and_apart : (x y z : Bool) → (x && y) ≡ false → (x && y && z) ≡ false
@@ -205,14 +206,14 @@ and_apart false y z h = refl
 and_all : (x y z : Bool) → z ≡ false → (x && y && z) ≡ false
 and_all x y z h = ap (λ b. x && y && b) h ∙ never x y
 
-pub said_shows : (node : List ℕ) (count : ℕ) (held : ℕ → Option Process) (next : ℕ → ℕ → ℕ) (log : List Entry) (i j : ℕ) (mark body : List ℕ) → Shows node count held next log → Shows node count held (raise i j next) (log ++ Said (at node i) (at node j) 0 (next i j) mark body ∷ [])
+pub said_shows : (node : List ℕ) (count : ℕ) (held : ℕ → Option Process) (next : ℕ → ℕ → ℕ) (log : List Entry) (i j : ℕ) (mark body : List ℕ) → Shows node count held next log → Shows node count held (raise i j next) (log ++ Said (at node i) (targets.Process (at node j)) 0 (next i j) mark body ∷ [])
 said_shows node count held next log i j mark body s = record {
   count_is = count_same (makes_on node) log said refl ∙ s.count_is;
   accounts = λ m. account_same log said (at node m) (held m) refl refl (λ word. refl) (λ word. refl) (s.accounts m);
   pairs = λ p q. by_test p q (p == i && q == j) refl;
 } where
   said : Entry
-  said = Said (at node i) (at node j) 0 (next i j) mark body
+  said = Said (at node i) (targets.Process (at node j)) 0 (next i j) mark body
 
   unsaid : (p q k : ℕ) → (p == i && q == j && k == next i j) ≡ false → said_by (at node p) (at node q) 0 k said ≡ None
   unsaid p q k h = ap (λ b. if b then Some (record { mark = mark; body = body }) else None) (the_said_is node p q i j k (next i j) mark body ∙ h)
@@ -234,7 +235,7 @@ said_shows node count held next log i j mark body s = record {
       subst (λ m. Pair (log ++ said ∷ []) (at node m) (at node q) (next i j + 1)) (sym (eqb-true p i parts.0)) (subst (λ m. Pair (log ++ said ∷ []) (at node i) (at node m) (next i j + 1)) (sym (eqb-true q j parts.1)) here)
   by_test p q false h = pair_same log said (at node p) (at node q) (next p q) (says_is node p q i j (next i j) mark body ∙ h) (λ k. unsaid p q k (and_apart (p == i) (q == j) (k == next i j) h)) refl (s.pairs p q)
 
-pub got_shows : (node : List ℕ) (count : ℕ) (held : ℕ → Option Process) (next : ℕ → ℕ → ℕ) (log : List Entry) (i j k : ℕ) (process : Process) (message : Message) → held j ≡ Some process → message_of log (at node i) (at node j) 0 k ≡ Some message → Shows node count held next log → Shows node count (put j (record process { mailbox = process.mailbox ++ message ∷ [] }) held) next (log ++ Got (at node i) (at node j) 0 k (at node j) ∷ [])
+pub got_shows : (node : List ℕ) (count : ℕ) (held : ℕ → Option Process) (next : ℕ → ℕ → ℕ) (log : List Entry) (i j k : ℕ) (process : Process) (message : Message) → held j ≡ Some process → message_of log (at node i) (at node j) 0 k ≡ Some message → Shows node count held next log → Shows node count (put j (record process { mailbox = process.mailbox ++ message ∷ [] }) held) next (log ++ Got (at node i) (targets.Process (at node j)) 0 k (Some (at node j)) ∷ [])
 got_shows node count held next log i j k process message is said s = record {
   count_is = count_same (makes_on node) log got refl ∙ s.count_is;
   accounts = placed node (log ++ got ∷ []) j (record process { mailbox = process.mailbox ++ message ∷ [] }) held (record {
@@ -246,7 +247,7 @@ got_shows node count held next log i j k process message is said s = record {
   pairs = λ p q. pair_same log got (at node p) (at node q) (next p q) refl (λ n. refl) (never (same_process (at node p) (at node i)) (same_process (at node q) (at node j))) (s.pairs p q);
 } where
   got : Entry
-  got = Got (at node i) (at node j) 0 k (at node j)
+  got = Got (at node i) (targets.Process (at node j)) 0 k (Some (at node j))
 
   enters : (word : List ℕ) → entering log (at node j) word got ≡ body_of_mark word (Some message)
   enters word = ap (λ b. if b then body_of_mark word (message_of log (at node i) (at node j) 0 k) else []) (same_self node j) ∙ ap (λ m. body_of_mark word m) said
@@ -262,7 +263,7 @@ got_shows node count held next log i j k process message is said s = record {
     taken = count_same (takes (at node j) word) log got refl ∙ m.taken;
   }
 
-pub took_shows : (node : List ℕ) (count : ℕ) (held : ℕ → Option Process) (next : ℕ → ℕ → ℕ) (log : List Entry) (k : ℕ) (process : Process) (message : Message) (rest : List Message) → held k ≡ Some process → IsTaken message.mark process.mailbox message rest → Shows node count held next log → Shows node count (put k (record process { mailbox = rest }) held) next (log ++ Took (at node k) message.mark message.body ∷ [])
+pub took_shows : (node : List ℕ) (count : ℕ) (held : ℕ → Option Process) (next : ℕ → ℕ → ℕ) (log : List Entry) (k : ℕ) (process : Process) (message : Message) (rest : List Message) → held k ≡ Some process → IsTaken message.mark process.mailbox message rest → Shows node count held next log → Shows node count (put k (record process { mailbox = rest }) held) next (log ++ Took (at node k) None message.mark message.body ∷ [])
 took_shows node count held next log k process message rest is taken s = record {
   count_is = count_same (makes_on node) log took refl ∙ s.count_is;
   accounts = placed node (log ++ took ∷ []) k (record process { mailbox = rest }) held (record {
@@ -274,7 +275,7 @@ took_shows node count held next log k process message rest is taken s = record {
   pairs = λ p q. pair_same log took (at node p) (at node q) (next p q) refl (λ n. refl) refl (s.pairs p q);
 } where
   took : Entry
-  took = Took (at node k) message.mark message.body
+  took = Took (at node k) None message.mark message.body
 
   nothing_enters : (word : List ℕ) → entered (log ++ took ∷ []) (at node k) word ≡ entered log (at node k) word
   nothing_enters word = entered_more log took (at node k) word ∙ append-nil (entered log (at node k) word)
@@ -298,15 +299,15 @@ took_shows node count held next log k process message rest is taken s = record {
     taken = count_same (takes (at node k) word) log took (takes_is word false h) ∙ m.taken;
   }
 
-pub took_got : (node : List ℕ) (next : ℕ → ℕ → ℕ) (log : List Entry) (process : ProcName) (mark body : List ℕ) → AllGot node next log → AllGot node next (log ++ Took process mark body ∷ [])
-took_got node next log process mark body s = got_same node next log (Took process mark body) (λ p. refl) (λ p q. refl) s
+pub took_got : (node : List ℕ) (next : ℕ → ℕ → ℕ) (log : List Entry) (process : ProcName) (mark body : List ℕ) → AllGot node next log → AllGot node next (log ++ Took process None mark body ∷ [])
+took_got node next log process mark body s = got_same node next log (Took process None mark body) (λ p. refl) (λ p q. refl) s
 
 -- ---- a message is said, and got where its receiver isn't over
 
-pub said_got_never : (node : List ℕ) (next : ℕ → ℕ → ℕ) (log : List Entry) (i j k : ℕ) (mark body : List ℕ) → is_over_in log (at node j) ≡ true → AllGot node next log → AllGot node (raise i j next) (log ++ Said (at node i) (at node j) 0 k mark body ∷ [])
+pub said_got_never : (node : List ℕ) (next : ℕ → ℕ → ℕ) (log : List Entry) (i j k : ℕ) (mark body : List ℕ) → is_over_in log (at node j) ≡ true → AllGot node next log → AllGot node (raise i j next) (log ++ Said (at node i) (targets.Process (at node j)) 0 k mark body ∷ [])
 said_got_never node next log i j k mark body over s = record { got = λ p q o. by_test p q (p == i && q == j) refl (sym (any_same (ends (at node q)) log said refl) ∙ o) } where
   said : Entry
-  said = Said (at node i) (at node j) 0 k mark body
+  said = Said (at node i) (targets.Process (at node j)) 0 k mark body
 
   by_test : (p q : ℕ) (b : Bool) → (p == i && q == j) ≡ b → is_over_in log (at node q) ≡ false → got_in (log ++ said ∷ []) (at node p) (at node q) 0 ≡ cond b (next i j + 1) (next p q)
   by_test p q true h o =
@@ -315,13 +316,13 @@ said_got_never node next log i j k mark body over s = record { got = λ p q o. b
       absurd (cc)
   by_test p q false h o = count_same (gets (at node p) (at node q) 0) log said refl ∙ s.got p q o
 
-pub said_got_at_once : (node : List ℕ) (next : ℕ → ℕ → ℕ) (log : List Entry) (i j k : ℕ) (mark body : List ℕ) → AllGot node next log → AllGot node (raise i j next) ((log ++ Said (at node i) (at node j) 0 k mark body ∷ []) ++ Got (at node i) (at node j) 0 k (at node j) ∷ [])
+pub said_got_at_once : (node : List ℕ) (next : ℕ → ℕ → ℕ) (log : List Entry) (i j k : ℕ) (mark body : List ℕ) → AllGot node next log → AllGot node (raise i j next) ((log ++ Said (at node i) (targets.Process (at node j)) 0 k mark body ∷ []) ++ Got (at node i) (targets.Process (at node j)) 0 k (Some (at node j)) ∷ [])
 said_got_at_once node next log i j k mark body s = record { got = λ p q o. by_test p q (p == i && q == j) refl (sym (any_same (ends (at node q)) log said refl) ∙ sym (any_same (ends (at node q)) (log ++ said ∷ []) got refl) ∙ o) } where
   said : Entry
-  said = Said (at node i) (at node j) 0 k mark body
+  said = Said (at node i) (targets.Process (at node j)) 0 k mark body
 
   got : Entry
-  got = Got (at node i) (at node j) 0 k (at node j)
+  got = Got (at node i) (targets.Process (at node j)) 0 k (Some (at node j))
 
   here : is_over_in log (at node j) ≡ false → got_in ((log ++ said ∷ []) ++ got ∷ []) (at node i) (at node j) 0 ≡ next i j + 1
   here o = count_next (gets (at node i) (at node j) 0) (log ++ said ∷ []) got (gets_is node i j i j k (at node j) ∙ ap (λ b. b && j == j) (equal_numbers i) ∙ equal_numbers j) ∙ ap (λ n. n + 1) (count_same (gets (at node i) (at node j) 0) log said refl ∙ s.got i j o)

@@ -9,29 +9,31 @@ ghost use Rattle.ch_model.specs.declared.entry.Entry.{Entry};
 ghost use Rattle.ch_model.specs.declared.line.Line.{Line};
 ghost use Rattle.ch_model.specs.declared.refusal.LineFault.{LineFault};
 ghost use Rattle.ch_model.specs.Journal.{scan_of, journal_of, first_fault, raw_lines, longest_journal};
-ghost use Rattle.ch_model.specs.Lawful.{IsOfOneNode, IsLawful};
-ghost use Rattle.ch_model.specs.World.{log_of};
+ghost use Rattle.ch_model.specs.LinesBuilt.{one_node};
+ghost use Rattle.ch_one_node.specs.World.{log_of};
+ghost use Rattle.ch_laws_one_node.specs.Lawful.{IsLawful};
+ghost use Rattle.ch_laws_one_node.specs.OneNode.{IsOfOneNode};
 ghost use Rattle.ch_laws_one_node.specs.Places.{AreNumbered, IsFirstFault};
 
 /// What is read as a journal is no line, or one declaration of a node and then event lines that name
 /// that node alone.
 pub fn readable()
-    ensures { (bytes : List ℕ) → IsOfOneNode (journal_of bytes) }
+    ensures { (bytes : List ℕ) → IsOfOneNode (journal_of one_node bytes) }
 {}
 
 /// A journal that is read to its end, without a refused line, is no longer than a journal may be.
 /// So all of its bytes were looked at.
 pub fn within_limits()
-    ensures { (bytes : List ℕ) → first_fault bytes ≡ None → length bytes ≤ longest_journal }
+    ensures { (bytes : List ℕ) → first_fault one_node bytes ≡ None → length bytes ≤ longest_journal }
 {}
 
 /// Reading stops at the first line with a fault. No byte after the first that is too many is looked
 /// at; the lines are numbered in order, below the fault's; and the lines before the fault, read
 /// alone, have none and give the same journal.
 pub fn ends_in_place()
-    ensures looked_at { (bytes : List ℕ) → scan_of (take (longest_journal + 1) bytes) ≡ scan_of bytes }
-    ensures numbered { (bytes : List ℕ) → AreNumbered 1 (journal_of bytes) (first_fault bytes) }
-    ensures first { (b : ℕ) (bytes : List ℕ) (number : ℕ) (fault : LineFault) → first_fault (b ∷ bytes) ≡ Some (number, fault) → IsFirstFault (raw_lines (take (longest_journal + 1) (b ∷ bytes))) (journal_of (b ∷ bytes)) number fault }
+    ensures looked_at { (bytes : List ℕ) → scan_of one_node (take (longest_journal + 1) bytes) ≡ scan_of one_node bytes }
+    ensures numbered { (bytes : List ℕ) → AreNumbered 1 (journal_of one_node bytes) (first_fault one_node bytes) }
+    ensures first { (b : ℕ) (bytes : List ℕ) (number : ℕ) (fault : LineFault) → first_fault one_node (b ∷ bytes) ≡ Some (number, fault) → IsFirstFault (raw_lines (take (longest_journal + 1) (b ∷ bytes))) (journal_of one_node (b ∷ bytes)) number fault }
 {}
 
 /// The log of a journal of one node is lawful: every event line is answered as the log before it
@@ -40,5 +42,5 @@ pub fn ends_in_place()
 /// they came. So it is of the journal that any bytes spell.
 pub fn lawful()
     ensures lines { (journal : List Line) (log : List Entry) → IsOfOneNode journal → log_of journal ≡ Ok log → IsLawful journal log }
-    ensures bytes { (bytes : List ℕ) (log : List Entry) → log_of (journal_of bytes) ≡ Ok log → IsLawful (journal_of bytes) log }
+    ensures bytes { (bytes : List ℕ) (log : List Entry) → log_of (journal_of one_node bytes) ≡ Ok log → IsLawful (journal_of one_node bytes) log }
 {}
