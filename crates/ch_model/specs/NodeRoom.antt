@@ -55,9 +55,13 @@ is_known node (targets.Named at name) = true
 unfoldable pub known : NodeState → Target → Result (Unit {0}) CommandError
 known node to = if is_known node to then Ok tt else Err Unknown
 
+-- the most bytes of a payload
+abbrev pub longest : ℕ
+longest = MOST_PAYLOAD_BYTES
+
 -- a payload fits in one frame
 unfoldable pub fitting : List ℕ → Result (Unit {0}) CommandError
-fitting payload = if nat_lt MOST_PAYLOAD_BYTES (length payload) then Err Long else Ok tt
+fitting payload = if nat_lt longest (length payload) then Err Long else Ok tt
 
 -- the link is up, or one more payload may wait for it; to the node itself nothing waits
 unfoldable pub not_full : NodeState → Address → Room → Result (Unit {0}) CommandError

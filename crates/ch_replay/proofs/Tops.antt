@@ -11,7 +11,7 @@ use Rattle.ch_model.specs.declared.refusal.LineFault.TheVariants as faults
 use Rattle.ch_one_node.specs.World.{◌>>=◌, log_of}
 use Rattle.ch_model.specs.Journal.{longest_journal, raw_lines, journal_of, first_fault}
 use Rattle.ch_model.specs.Spelling.{log_text}
-use Rattle.ch_model.specs.Lawful.{IsLawful}
+use Rattle.ch_laws_one_node.specs.Lawful.{IsLawful}
 use Rattle.ch_laws_one_node.proofs.Reading.{of_one_node}
 use Rattle.ch_laws_one_node.proofs.Law.{lawful_log}
 use Rattle.ch_laws_one_node.proofs.Limits.{all_within}

@@ -8,7 +8,7 @@ use Rattle.ch_model.specs.declared.refusal.LineFault.TheVariants as faults
 use Rattle.ch_one_node.specs.World.{log_of}
 use Rattle.ch_model.specs.Journal.{journal_of, first_fault}
 use Rattle.ch_model.specs.Spelling.{log_text}
-use Rattle.ch_model.specs.Lawful.{IsLawful}
+use Rattle.ch_laws_one_node.specs.Lawful.{IsLawful}
 use Rattle.ch_journal.specs.declared.status.Status.{Status}
 use Rattle.ch_journal.specs.declared.status.Status.TheVariants.{Done, Usage, ReadFault, WriteFault, BadLine, TooLong, OutOfMemory, Worn}
 use Rattle.ch_replay.specs.Outside.{Appended, AppendedSome}
