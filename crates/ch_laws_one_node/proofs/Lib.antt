@@ -7,3 +7,9 @@ pub mod Shows
 pub mod Calls
 pub mod Events
 pub mod Law
+pub mod Embedded
+pub mod EmbeddedCalls
+pub mod EmbeddedNotes
+pub mod EmbeddedLines
+pub mod WholeModel
+pub mod Frames

@@ -1,5 +1,5 @@
 -- The answer to each event line of one node, as the log before it shows, and what the line did.
-use Rattle.std.specs.Prelude.{◌≡◌, ℕ, not, List, [], ◌∷◌, ◌++◌, length, None, Some, nat_lt, if◌then◌else◌}
+use Rattle.std.specs.Prelude.{◌≡◌, ℕ, not, List, [], ◌∷◌, ◌++◌, length, None, nat_lt, if◌then◌else◌}
 use Rattle.std.specs.List.{AllByRecursion}
 use Rattle.ch_ident.specs.declared.reason.Reason.TheVariants.{Normal}
 use Rattle.ch_model.specs.declared.name.ProcName.{ProcName}

@@ -1,5 +1,5 @@
 -- What a log of one node shows of processes and pairs, by looking through its entries.
-use Rattle.std.specs.Prelude.{ℕ, Bool, false, ◌&&◌, List, count_by, None, Some, ◌==◌}
+use Rattle.std.specs.Prelude.{ℕ, Bool, false, ◌&&◌, List, count_by, None, ◌==◌}
 use Rattle.std.specs.List.{list_any}
 use Rattle.std.specs.Str.{bytes_eq}
 use Rattle.ch_model.specs.declared.name.ProcName.{ProcName}

@@ -1,5 +1,5 @@
 -- What a lawful log of one node is: each entry is lawful after those before it, and each event line is answered.
-use Rattle.std.specs.Prelude.{◌≡◌, ℕ, List, [], ◌∷◌, ◌++◌, None, Some}
+use Rattle.std.specs.Prelude.{List, [], ◌∷◌, ◌++◌, None, Some}
 use Rattle.ch_model.specs.declared.name.TargetName.TheVariants.{Process}
 use Rattle.ch_model.specs.declared.entry.Entry.{Entry}
 use Rattle.ch_model.specs.declared.entry.Entry.TheVariants.{Line, Made, Said, Got, Took, Over}

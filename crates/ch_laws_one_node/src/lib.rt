@@ -12,13 +12,19 @@ ghost use Rattle.ch_model.specs.Journal.{scan_of, journal_of, first_fault, raw_l
 ghost use Rattle.ch_model.specs.LinesBuilt.{one_node};
 ghost use Rattle.ch_one_node.specs.World.{log_of};
 ghost use Rattle.ch_laws_one_node.specs.Lawful.{IsLawful};
-ghost use Rattle.ch_laws_one_node.specs.OneNode.{IsOfOneNode};
+ghost use Rattle.ch_model.specs.World.{log_of as whole_log_of};
+ghost use Rattle.ch_laws_one_node.specs.OneNode.{IsOfOneNode, FitFrames};
 ghost use Rattle.ch_laws_one_node.specs.Places.{AreNumbered, IsFirstFault};
 
 /// What is read as a journal is no line, or one declaration of a node and then event lines that name
 /// that node alone.
 pub fn readable()
     ensures { (bytes : List ℕ) → IsOfOneNode (journal_of one_node bytes) }
+{}
+
+/// Each message that a line of such a journal sends fits in one frame, as a line has a limit.
+pub fn fits_frames()
+    ensures { (bytes : List ℕ) → FitFrames (journal_of one_node bytes) }
 {}
 
 /// A journal that is read to its end, without a refused line, is no longer than a journal may be.
@@ -34,6 +40,15 @@ pub fn ends_in_place()
     ensures looked_at { (bytes : List ℕ) → scan_of one_node (take (longest_journal + 1) bytes) ≡ scan_of one_node bytes }
     ensures numbered { (bytes : List ℕ) → AreNumbered 1 (journal_of one_node bytes) (first_fault one_node bytes) }
     ensures first { (b : ℕ) (bytes : List ℕ) (number : ℕ) (fault : LineFault) → first_fault one_node (b ∷ bytes) ≡ Some (number, fault) → IsFirstFault (raw_lines (take (longest_journal + 1) (b ∷ bytes))) (journal_of one_node (b ∷ bytes)) number fault }
+{}
+
+/// The whole model, with hosts, links and sockets, gives the same log of a journal of one node as the
+/// model of one node: the same entries, or the same stop. So it does of the journal that any bytes
+/// spell. The whole model answers a message that no frame can hold with `long`, so the journal's
+/// messages have to fit.
+pub fn whole_model()
+    ensures lines { (journal : List Line) → IsOfOneNode journal → FitFrames journal → whole_log_of journal ≡ log_of journal }
+    ensures bytes { (bytes : List ℕ) → whole_log_of (journal_of one_node bytes) ≡ log_of (journal_of one_node bytes) }
 {}
 
 /// The log of a journal of one node is lawful: every event line is answered as the log before it
