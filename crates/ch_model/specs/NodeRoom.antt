@@ -61,7 +61,7 @@ longest = MOST_PAYLOAD_BYTES
 
 -- a payload fits in one frame
 unfoldable pub fitting : List ℕ → Result (Unit {0}) CommandError
-fitting payload = if nat_lt longest (length payload) then Err Long else Ok tt
+fitting payload = if nat_le (length payload) longest then Ok tt else Err Long
 
 -- the link is up, or one more payload may wait for it; to the node itself nothing waits
 unfoldable pub not_full : NodeState → Address → Room → Result (Unit {0}) CommandError

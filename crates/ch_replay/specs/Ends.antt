@@ -5,7 +5,7 @@ use Rattle.ch_model.specs.LinesBuilt.{one_node}
 use Rattle.ch_model.specs.declared.entry.Entry.{Entry}
 use Rattle.ch_model.specs.declared.refusal.LineFault.{LineFault}
 use Rattle.ch_model.specs.declared.refusal.LineFault.TheVariants as faults
-use Rattle.ch_one_node.specs.World.{log_of}
+use Rattle.ch_model.specs.World.{log_of}
 use Rattle.ch_model.specs.Journal.{journal_of, first_fault}
 use Rattle.ch_model.specs.Spelling.{log_text}
 use Rattle.ch_laws_one_node.specs.Lawful.{IsLawful}
