@@ -46,8 +46,8 @@ fn name(alloc: Global) -> Result<Name, IdentError> {
 }
 
 /// The text that is appended for an entry.
-fn is_spelled(rt: HostRuntime, entry: &Entry, wanted: &[u8]) -> Result<(), Fail> {
-    let mut out = Vec::new(rt.alloc());
+fn is_spelled(rt: &impl Abort, alloc: Global, entry: &Entry, wanted: &[u8]) -> Result<(), Fail> {
+    let mut out = Vec::new(alloc);
     assert!(rt; put_entry(entry, &mut out).is_ok());
     assert_eq!(rt; out.as_slice(), wanted);
     Ok(())
@@ -56,8 +56,10 @@ fn is_spelled(rt: HostRuntime, entry: &Entry, wanted: &[u8]) -> Result<(), Fail>
 /// Each answer to a line.
 #[test]
 fn answers(rt: HostRuntime) -> Result<(), Fail> {
+    let alloc = rt.alloc();
     is_spelled(
-        rt,
+        &rt,
+        alloc,
         &Entry::Line {
             number: 4294967295,
             answer: Verdict::Ok,
@@ -65,7 +67,8 @@ fn answers(rt: HostRuntime) -> Result<(), Fail> {
         b"line 4294967295 ok\n",
     )?;
     is_spelled(
-        rt,
+        &rt,
+        alloc,
         &Entry::Line {
             number: 3,
             answer: Verdict::Unknown,
@@ -73,7 +76,8 @@ fn answers(rt: HostRuntime) -> Result<(), Fail> {
         b"line 3 unknown\n",
     )?;
     is_spelled(
-        rt,
+        &rt,
+        alloc,
         &Entry::Line {
             number: 10,
             answer: Verdict::Dead,
@@ -81,7 +85,8 @@ fn answers(rt: HostRuntime) -> Result<(), Fail> {
         b"line 10 dead\n",
     )?;
     is_spelled(
-        rt,
+        &rt,
+        alloc,
         &Entry::Line {
             number: 6,
             answer: Verdict::Empty,
@@ -89,7 +94,8 @@ fn answers(rt: HostRuntime) -> Result<(), Fail> {
         b"line 6 empty\n",
     )?;
     is_spelled(
-        rt,
+        &rt,
+        alloc,
         &Entry::Line {
             number: 7,
             answer: Verdict::Hale,
@@ -97,7 +103,8 @@ fn answers(rt: HostRuntime) -> Result<(), Fail> {
         b"line 7 hale\n",
     )?;
     is_spelled(
-        rt,
+        &rt,
+        alloc,
         &Entry::Line {
             number: 7,
             answer: Verdict::Taken,
@@ -105,7 +112,8 @@ fn answers(rt: HostRuntime) -> Result<(), Fail> {
         b"line 7 taken\n",
     )?;
     is_spelled(
-        rt,
+        &rt,
+        alloc,
         &Entry::Line {
             number: 7,
             answer: Verdict::NoName,
@@ -113,7 +121,8 @@ fn answers(rt: HostRuntime) -> Result<(), Fail> {
         b"line 7 noname\n",
     )?;
     is_spelled(
-        rt,
+        &rt,
+        alloc,
         &Entry::Line {
             number: 7,
             answer: Verdict::NoRef,
@@ -121,7 +130,8 @@ fn answers(rt: HostRuntime) -> Result<(), Fail> {
         b"line 7 noref\n",
     )?;
     is_spelled(
-        rt,
+        &rt,
+        alloc,
         &Entry::Line {
             number: 7,
             answer: Verdict::Long,
@@ -129,7 +139,8 @@ fn answers(rt: HostRuntime) -> Result<(), Fail> {
         b"line 7 long\n",
     )?;
     is_spelled(
-        rt,
+        &rt,
+        alloc,
         &Entry::Line {
             number: 7,
             answer: Verdict::Full,
@@ -137,7 +148,8 @@ fn answers(rt: HostRuntime) -> Result<(), Fail> {
         b"line 7 full\n",
     )?;
     is_spelled(
-        rt,
+        &rt,
+        alloc,
         &Entry::Line {
             number: 7,
             answer: Verdict::Spent,
@@ -145,7 +157,8 @@ fn answers(rt: HostRuntime) -> Result<(), Fail> {
         b"line 7 spent\n",
     )?;
     is_spelled(
-        rt,
+        &rt,
+        alloc,
         &Entry::Line {
             number: 7,
             answer: Verdict::Nothing,
@@ -160,7 +173,8 @@ fn answers(rt: HostRuntime) -> Result<(), Fail> {
 fn messages(rt: HostRuntime) -> Result<(), Fail> {
     let alloc = rt.alloc();
     is_spelled(
-        rt,
+        &rt,
+        alloc,
         &Entry::Said {
             by: process(alloc, 0)?,
             to: target(alloc, 1)?,
@@ -172,7 +186,8 @@ fn messages(rt: HostRuntime) -> Result<(), Fail> {
         b"said a.0 a.1 0 18446744073709551615 t 01ff\n",
     )?;
     is_spelled(
-        rt,
+        &rt,
+        alloc,
         &Entry::Said {
             by: process(alloc, 0)?,
             to: TargetName::Named {
@@ -187,7 +202,8 @@ fn messages(rt: HostRuntime) -> Result<(), Fail> {
         b"said a.0 b:t 1 0 t -\n",
     )?;
     is_spelled(
-        rt,
+        &rt,
+        alloc,
         &Entry::Again {
             by: process(alloc, 0)?,
             to: TargetName::Port {
@@ -199,7 +215,8 @@ fn messages(rt: HostRuntime) -> Result<(), Fail> {
         b"again a.0 a.1/2 3\n",
     )?;
     is_spelled(
-        rt,
+        &rt,
+        alloc,
         &Entry::Got {
             by: process(alloc, 0)?,
             to: target(alloc, 1)?,
@@ -210,7 +227,8 @@ fn messages(rt: HostRuntime) -> Result<(), Fail> {
         b"got a.0 a.1 2 10 a.1\n",
     )?;
     is_spelled(
-        rt,
+        &rt,
+        alloc,
         &Entry::Got {
             by: process(alloc, 0)?,
             to: target(alloc, 1)?,
@@ -221,7 +239,8 @@ fn messages(rt: HostRuntime) -> Result<(), Fail> {
         b"got a.0 a.1 0 0 -\n",
     )?;
     is_spelled(
-        rt,
+        &rt,
+        alloc,
         &Entry::Took {
             by: process(alloc, 1)?,
             port: None,
@@ -231,7 +250,8 @@ fn messages(rt: HostRuntime) -> Result<(), Fail> {
         b"took a.1 t -\n",
     )?;
     is_spelled(
-        rt,
+        &rt,
+        alloc,
         &Entry::Took {
             by: process(alloc, 1)?,
             port: Some(4),
@@ -248,7 +268,8 @@ fn messages(rt: HostRuntime) -> Result<(), Fail> {
 fn lives(rt: HostRuntime) -> Result<(), Fail> {
     let alloc = rt.alloc();
     is_spelled(
-        rt,
+        &rt,
+        alloc,
         &Entry::Made {
             process: process(alloc, 0)?,
             spawn: None,
@@ -257,7 +278,8 @@ fn lives(rt: HostRuntime) -> Result<(), Fail> {
         b"made a.0 - -\n",
     )?;
     is_spelled(
-        rt,
+        &rt,
+        alloc,
         &Entry::Made {
             process: process(alloc, 0)?,
             spawn: Some(reference(alloc, 1)?),
@@ -266,7 +288,8 @@ fn lives(rt: HostRuntime) -> Result<(), Fail> {
         b"made a.0 a!1 t\n",
     )?;
     is_spelled(
-        rt,
+        &rt,
+        alloc,
         &Entry::Port {
             process: process(alloc, 0)?,
             port: 1,
@@ -274,7 +297,8 @@ fn lives(rt: HostRuntime) -> Result<(), Fail> {
         b"port a.0/1\n",
     )?;
     is_spelled(
-        rt,
+        &rt,
+        alloc,
         &Entry::Over {
             process: process(alloc, 1)?,
             reason: Reason::Normal,
@@ -282,7 +306,8 @@ fn lives(rt: HostRuntime) -> Result<(), Fail> {
         b"over a.1 normal\n",
     )?;
     is_spelled(
-        rt,
+        &rt,
+        alloc,
         &Entry::Over {
             process: process(alloc, 1)?,
             reason: Reason::Exception(text(alloc, b"odd")?),
@@ -290,7 +315,8 @@ fn lives(rt: HostRuntime) -> Result<(), Fail> {
         b"over a.1 exception odd\n",
     )?;
     is_spelled(
-        rt,
+        &rt,
+        alloc,
         &Entry::Doom {
             process: process(alloc, 1)?,
             text: text(alloc, b"exit two words")?,
@@ -298,7 +324,8 @@ fn lives(rt: HostRuntime) -> Result<(), Fail> {
         b"doom a.1 exit two words\n",
     )?;
     is_spelled(
-        rt,
+        &rt,
+        alloc,
         &Entry::Shut {
             node: text(alloc, b"a")?,
         },
@@ -312,7 +339,8 @@ fn lives(rt: HostRuntime) -> Result<(), Fail> {
 fn watches(rt: HostRuntime) -> Result<(), Fail> {
     let alloc = rt.alloc();
     is_spelled(
-        rt,
+        &rt,
+        alloc,
         &Entry::Watch {
             watch: reference(alloc, 0)?,
             by: process(alloc, 0)?,
@@ -322,7 +350,8 @@ fn watches(rt: HostRuntime) -> Result<(), Fail> {
         b"watch a!0 a.0 a.1 monitor\n",
     )?;
     is_spelled(
-        rt,
+        &rt,
+        alloc,
         &Entry::Watch {
             watch: reference(alloc, 0)?,
             by: process(alloc, 0)?,
@@ -332,21 +361,24 @@ fn watches(rt: HostRuntime) -> Result<(), Fail> {
         b"watch a!0 a.0 a.1 link\n",
     )?;
     is_spelled(
-        rt,
+        &rt,
+        alloc,
         &Entry::Unwatch {
             watch: reference(alloc, 0)?,
         },
         b"unwatch a!0\n",
     )?;
     is_spelled(
-        rt,
+        &rt,
+        alloc,
         &Entry::Absent {
             watch: reference(alloc, 0)?,
         },
         b"absent a!0\n",
     )?;
     is_spelled(
-        rt,
+        &rt,
+        alloc,
         &Entry::Told {
             watch: reference(alloc, 0)?,
             reason: Reason::NodeDown,
@@ -354,7 +386,8 @@ fn watches(rt: HostRuntime) -> Result<(), Fail> {
         b"told a!0 nodedown\n",
     )?;
     is_spelled(
-        rt,
+        &rt,
+        alloc,
         &Entry::Told {
             watch: reference(alloc, 0)?,
             reason: Reason::Disconnect,
@@ -362,7 +395,8 @@ fn watches(rt: HostRuntime) -> Result<(), Fail> {
         b"told a!0 disconnect\n",
     )?;
     is_spelled(
-        rt,
+        &rt,
+        alloc,
         &Entry::Told {
             watch: reference(alloc, 0)?,
             reason: Reason::UnknownId,
@@ -370,7 +404,8 @@ fn watches(rt: HostRuntime) -> Result<(), Fail> {
         b"told a!0 unknownid\n",
     )?;
     is_spelled(
-        rt,
+        &rt,
+        alloc,
         &Entry::Asked {
             question: reference(alloc, 0)?,
             by: process(alloc, 0)?,
@@ -379,7 +414,8 @@ fn watches(rt: HostRuntime) -> Result<(), Fail> {
         b"asked a!0 a.0 b\n",
     )?;
     is_spelled(
-        rt,
+        &rt,
+        alloc,
         &Entry::Spawned {
             question: reference(alloc, 0)?,
             process: process(alloc, 1)?,
@@ -387,7 +423,8 @@ fn watches(rt: HostRuntime) -> Result<(), Fail> {
         b"spawned a!0 a.1\n",
     )?;
     is_spelled(
-        rt,
+        &rt,
+        alloc,
         &Entry::Isat {
             question: reference(alloc, 0)?,
             found: None,
@@ -395,7 +432,8 @@ fn watches(rt: HostRuntime) -> Result<(), Fail> {
         b"isat a!0 -\n",
     )?;
     is_spelled(
-        rt,
+        &rt,
+        alloc,
         &Entry::Isat {
             question: reference(alloc, 0)?,
             found: Some(process(alloc, 1)?),
@@ -403,7 +441,8 @@ fn watches(rt: HostRuntime) -> Result<(), Fail> {
         b"isat a!0 a.1\n",
     )?;
     is_spelled(
-        rt,
+        &rt,
+        alloc,
         &Entry::Named {
             node: text(alloc, b"a")?,
             name: name(alloc)?,
@@ -412,7 +451,8 @@ fn watches(rt: HostRuntime) -> Result<(), Fail> {
         b"named a t a.1\n",
     )?;
     is_spelled(
-        rt,
+        &rt,
+        alloc,
         &Entry::Named {
             node: text(alloc, b"a")?,
             name: name(alloc)?,
@@ -428,21 +468,24 @@ fn watches(rt: HostRuntime) -> Result<(), Fail> {
 fn sockets(rt: HostRuntime) -> Result<(), Fail> {
     let alloc = rt.alloc();
     is_spelled(
-        rt,
+        &rt,
+        alloc,
         &Entry::Dial {
             sock: sock(alloc, 0)?,
         },
         b"dial a>b.0\n",
     )?;
     is_spelled(
-        rt,
+        &rt,
+        alloc,
         &Entry::Knocked {
             sock: sock(alloc, 0)?,
         },
         b"knocked a>b.0\n",
     )?;
     is_spelled(
-        rt,
+        &rt,
+        alloc,
         &Entry::Poked {
             sock: sock(alloc, 0)?,
             bytes: text(alloc, b"\xab")?,
@@ -450,28 +493,32 @@ fn sockets(rt: HostRuntime) -> Result<(), Fail> {
         b"poked a>b.0 ab\n",
     )?;
     is_spelled(
-        rt,
+        &rt,
+        alloc,
         &Entry::Quitted {
             sock: sock(alloc, 0)?,
         },
         b"quitted a>b.0\n",
     )?;
     is_spelled(
-        rt,
+        &rt,
+        alloc,
         &Entry::Joined {
             sock: sock(alloc, 0)?,
         },
         b"joined a>b.0\n",
     )?;
     is_spelled(
-        rt,
+        &rt,
+        alloc,
         &Entry::Came {
             sock: sock(alloc, 0)?,
         },
         b"came a>b.0\n",
     )?;
     is_spelled(
-        rt,
+        &rt,
+        alloc,
         &Entry::Refused {
             sock: sock(alloc, 0)?,
         },
@@ -485,7 +532,8 @@ fn sockets(rt: HostRuntime) -> Result<(), Fail> {
 fn ends(rt: HostRuntime) -> Result<(), Fail> {
     let alloc = rt.alloc();
     is_spelled(
-        rt,
+        &rt,
+        alloc,
         &Entry::Cut {
             sock: sock(alloc, 0)?,
             end: End::O,
@@ -493,7 +541,8 @@ fn ends(rt: HostRuntime) -> Result<(), Fail> {
         b"cut a>b.0 o\n",
     )?;
     is_spelled(
-        rt,
+        &rt,
+        alloc,
         &Entry::Lost {
             sock: sock(alloc, 0)?,
             end: End::T,
@@ -501,7 +550,8 @@ fn ends(rt: HostRuntime) -> Result<(), Fail> {
         b"lost a>b.0 t\n",
     )?;
     is_spelled(
-        rt,
+        &rt,
+        alloc,
         &Entry::Timed {
             node: text(alloc, b"a")?,
             peer: text(alloc, b"b")?,
@@ -509,7 +559,8 @@ fn ends(rt: HostRuntime) -> Result<(), Fail> {
         b"timed a b\n",
     )?;
     is_spelled(
-        rt,
+        &rt,
+        alloc,
         &Entry::Fed {
             sock: sock(alloc, 0)?,
             end: End::T,
@@ -518,7 +569,8 @@ fn ends(rt: HostRuntime) -> Result<(), Fail> {
         b"fed a>b.0 t 0\n",
     )?;
     is_spelled(
-        rt,
+        &rt,
+        alloc,
         &Entry::Wrote {
             sock: sock(alloc, 0)?,
             end: End::O,
@@ -527,7 +579,8 @@ fn ends(rt: HostRuntime) -> Result<(), Fail> {
         b"wrote a>b.0 o 0001\n",
     )?;
     is_spelled(
-        rt,
+        &rt,
+        alloc,
         &Entry::Up {
             sock: sock(alloc, 0)?,
             end: End::T,
@@ -535,7 +588,8 @@ fn ends(rt: HostRuntime) -> Result<(), Fail> {
         b"up a>b.0 t\n",
     )?;
     is_spelled(
-        rt,
+        &rt,
+        alloc,
         &Entry::Down {
             sock: sock(alloc, 0)?,
             end: End::T,
@@ -543,7 +597,8 @@ fn ends(rt: HostRuntime) -> Result<(), Fail> {
         b"down a>b.0 t\n",
     )?;
     is_spelled(
-        rt,
+        &rt,
+        alloc,
         &Entry::Left {
             sock: sock(alloc, 0)?,
             end: End::O,
@@ -551,7 +606,8 @@ fn ends(rt: HostRuntime) -> Result<(), Fail> {
         b"left a>b.0 o\n",
     )?;
     is_spelled(
-        rt,
+        &rt,
+        alloc,
         &Entry::Broke {
             node: text(alloc, b"a")?,
             peer: text(alloc, b"b")?,
@@ -560,7 +616,8 @@ fn ends(rt: HostRuntime) -> Result<(), Fail> {
         b"broke a b nodedown\n",
     )?;
     is_spelled(
-        rt,
+        &rt,
+        alloc,
         &Entry::Broke {
             node: text(alloc, b"a")?,
             peer: text(alloc, b"b")?,
@@ -568,6 +625,6 @@ fn ends(rt: HostRuntime) -> Result<(), Fail> {
         },
         b"broke a b disconnect\n",
     )?;
-    is_spelled(rt, &Entry::Settled, b"settled\n")?;
+    is_spelled(&rt, alloc, &Entry::Settled, b"settled\n")?;
     Ok(())
 }
