@@ -5,7 +5,9 @@ First prove and build the program: `rt run` in crates/reader_bench. Then `bench/
 makes 256 MiB (or MIB) of frames of 64 and of 60,000 bytes, feeds them in pieces of 1, 64, 4,096 and
 65,536 bytes, and prints a line for each, and for each size of frames the ratio of the fastest to the
 slowest for pieces from 64 up. What making the frames takes is left out: it is the time of feeding
-them three times less that of feeding them once. It ends with status 1 where a ratio is over 4.
+them several times less that of feeding them once. Each of the two is the least of five runs, as other
+work on the machine only adds to it; pieces of 1, which take long, are run once. It ends with status
+1 where a ratio is over 4.
 """
 import pathlib
 import resource
@@ -23,18 +25,25 @@ def processor_seconds():
     return used.ru_utime + used.ru_stime
 
 
-def run(*words):
+def run(words):
     """The bytes that one run fed, and its processor time."""
     began = processor_seconds()
     done = subprocess.run([PROGRAM, *map(str, words)], check=True, capture_output=True, text=True)
     return int(done.stdout.split()[0]), processor_seconds() - began
 
 
+def least(runs, *words):
+    """The bytes that each of the runs fed, and the least of their processor times."""
+    found = [run(words) for _ in range(runs)]
+    return found[0][0], min(seconds for _, seconds in found)
+
+
 def rate(frame, piece, kib):
     """The bytes that are fed for each second of processor time."""
-    once, seconds_once = run(frame, piece, kib, 1)
-    thrice, seconds_thrice = run(frame, piece, kib, 3)
-    return (thrice - once) / (seconds_thrice - seconds_once)
+    runs, times = (1, 2) if piece == 1 else (5, 5)
+    once, seconds_once = least(runs, frame, piece, kib, 1)
+    often, seconds_often = least(runs, frame, piece, kib, times)
+    return (often - once) / (seconds_often - seconds_once)
 
 
 def main():

@@ -5,7 +5,6 @@ pub mod Losses
 pub mod Watches
 pub mod Strangers
 pub mod Refused
-pub mod Unlawful
 pub mod WrongDelivery
 pub mod WrongLinks
 pub mod WrongNotices

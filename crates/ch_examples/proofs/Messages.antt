@@ -42,23 +42,43 @@ use Rattle.ch_watch.specs.Watches.{nothing, watch_of, unwatch_of, told_of, waiti
 use Rattle.ch_examples.specs.Shown.{LogIs}
 use Rattle.ch_examples.specs.Messages.{settled_message, settled_message_log, settled_message_opened, settled_message_opened_log, empty_message, empty_message_log, empty_message_opened, empty_message_opened_log, fed_byte_by_byte, fed_byte_by_byte_log, again_over_a_live_link, again_over_a_live_link_log, again_over_a_live_link_opened, again_over_a_live_link_opened_log, several_wait, several_wait_log, several_wait_opened, several_wait_opened_log, closed_before_written, closed_before_written_log, closed_before_written_opened, closed_before_written_opened_log, two_nodes_on_one_host, two_nodes_on_one_host_log, two_nodes_on_one_host_opened, two_nodes_on_one_host_opened_log, connections_one_after_another, connections_one_after_another_log, connections_one_after_another_opened, connections_one_after_another_opened_log, ports, ports_log, ports_opened, ports_opened_log}
 
-messages_are :
-    LogIs settled_message settled_message_log
-    × LogIs settled_message_opened settled_message_opened_log
-    × LogIs empty_message empty_message_log
-    × LogIs empty_message_opened empty_message_opened_log
-    × LogIs fed_byte_by_byte fed_byte_by_byte_log
-    × LogIs again_over_a_live_link again_over_a_live_link_log
-    × LogIs again_over_a_live_link_opened again_over_a_live_link_opened_log
-    × LogIs several_wait several_wait_log
-    × LogIs several_wait_opened several_wait_opened_log
-    × LogIs closed_before_written closed_before_written_log
-    × LogIs closed_before_written_opened closed_before_written_opened_log
-    × LogIs two_nodes_on_one_host two_nodes_on_one_host_log
-    × LogIs two_nodes_on_one_host_opened two_nodes_on_one_host_opened_log
-    × LogIs connections_one_after_another connections_one_after_another_log
-    × LogIs connections_one_after_another_opened connections_one_after_another_opened_log
-    × LogIs ports ports_log
-    × LogIs ports_opened ports_opened_log
+-- each row and its log
+record MessagesAre : Type 0 where
+  -- a message from one node to another
+  settled_message_is : LogIs settled_message settled_message_log
+  -- the same, line by line
+  settled_message_opened_is : LogIs settled_message_opened settled_message_opened_log
+  -- a message without a body
+  empty_message_is : LogIs empty_message empty_message_log
+  -- the same, line by line
+  empty_message_opened_is : LogIs empty_message_opened empty_message_opened_log
+  -- a message whose socket is fed byte by byte
+  fed_byte_by_byte_is : LogIs fed_byte_by_byte fed_byte_by_byte_log
+  -- a pair reconnects over a link that is up
+  again_over_a_live_link_is : LogIs again_over_a_live_link again_over_a_live_link_log
+  -- the same, line by line
+  again_over_a_live_link_opened_is : LogIs again_over_a_live_link_opened again_over_a_live_link_opened_log
+  -- several messages wait for a link to be up
+  several_wait_is : LogIs several_wait several_wait_log
+  -- the same, line by line
+  several_wait_opened_is : LogIs several_wait_opened several_wait_opened_log
+  -- what waits on a closed connection is written all the same
+  closed_before_written_is : LogIs closed_before_written closed_before_written_log
+  -- the same, line by line
+  closed_before_written_opened_is : LogIs closed_before_written_opened closed_before_written_opened_log
+  -- two nodes on one host talk through a socket
+  two_nodes_on_one_host_is : LogIs two_nodes_on_one_host two_nodes_on_one_host_log
+  -- the same, line by line
+  two_nodes_on_one_host_opened_is : LogIs two_nodes_on_one_host_opened two_nodes_on_one_host_opened_log
+  -- each reconnecting pair opens the next connection
+  connections_one_after_another_is : LogIs connections_one_after_another connections_one_after_another_log
+  -- the same, line by line
+  connections_one_after_another_opened_is : LogIs connections_one_after_another_opened connections_one_after_another_opened_log
+  -- a port gets what is sent to it; one that is not open is void between nodes, and unknown at home
+  ports_is : LogIs ports ports_log
+  -- the same, line by line
+  ports_opened_is : LogIs ports_opened ports_opened_log
+
+messages_are : MessagesAre
 unfolding digits encode_with decode_pairs host_at port_at_of_addresses read_address name_of piece_at tested_at name_at text_at long_at address_at process_at port_at_of_reading reference_at identifier_at reason_at found_at opening_at monitor_at unmonitor_at link_at unlink_at spawn_at did_spawn_at died_at where_is_at is_at_at named_send_at exit_at kill_at fields_at message_at whole identifier_of message_of user_of id_of give_of close_of created_of conn_of closed_of step_of newborn waiting_in appended given_to taken_from taken_from_port opened_by ended doomed make_of life_of doom_of end_of_of_mail put_of take_of take_port_of open_port_of waiting_of_of_mail first_of_mark first_of field_of last_of node_name_of digits_of word_of sent_mark_of bytes_of address_of host_of end_of_of_fields text_of number_in count_in process_of destination_parts destination_of named_of reference_of socket_of numbered numbered_target numbered_destination numbered_reference numbered_socket host_on host_next host_open host_connect host_send host_close host_close_endpoint host_room host_timer_runs line_of_word line_said only_node_line send_process_line place_line node_line away_line label_line stranger_line process_and_peer process_peer_and_text monitor_line link_line unwatch_line exit_line kill_line spawn_line whereis_line process_alone process_and_word proc_line send_line nsend_line again_line recv_line port_line take_line end_line fail_line fall_line register_line unregister_line socket_alone socket_and_end shut_line join_line come_line refuse_line feed_line cut_line lose_line late_line knock_line poke_line quit_line settle_line early_in declared_in peer_in stranger_in opener_in new_name new_address new_host new_label node_new node_make node_command node_event node_shut node_watched target_node node_life node_waiting node_args growing bound_between bind received arrives departs lost_told peer_lost spawned tell_spawned fail_unlabelled spawn_arrives found tell_found standing question_arrives doom_arrives send_of again_of receive_of take_port open_port finish_of fall_of drawn opening conn_to tell_first tell_node farewell over is_own life_here is_living has_port is_port_here make doom mail_to handle is_for_peer ask same_process same_port same_target is_pair pair_of next_epoch conns_by closed_pairs lost_pair watch watch_by unwatch_by doom_by question spawn_by whereis_by register_by unregister_by acting falling is_known known fitting not_full opened_besides not_spent room_to_send get deliver send_first carry say reconnect watch_under is_awaited closing monitor_told link_told told tell_end absent watch_arrives watch_leaves place_of add_of has_name has_number is_watch_of awaits node_of same_node same_ref nothing watch_of unwatch_of told_of waiting_of_of_watches lost_of arrive_of forget_of ending_of ended_of register_of unregister_of find_of
-messages_are = (refl, refl, refl, refl, refl, refl, refl, refl, refl, refl, refl, refl, refl, refl, refl, refl, refl)
+messages_are = record { settled_message_is = refl; settled_message_opened_is = refl; empty_message_is = refl; empty_message_opened_is = refl; fed_byte_by_byte_is = refl; again_over_a_live_link_is = refl; again_over_a_live_link_opened_is = refl; several_wait_is = refl; several_wait_opened_is = refl; closed_before_written_is = refl; closed_before_written_opened_is = refl; two_nodes_on_one_host_is = refl; two_nodes_on_one_host_opened_is = refl; connections_one_after_another_is = refl; connections_one_after_another_opened_is = refl; ports_is = refl; ports_opened_is = refl }

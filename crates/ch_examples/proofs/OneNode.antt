@@ -42,14 +42,25 @@ use Rattle.ch_watch.specs.Watches.{nothing, watch_of, unwatch_of, told_of, waiti
 use Rattle.ch_examples.specs.Shown.{LogIs}
 use Rattle.ch_examples.specs.OneNode.{sends_on_one_node, sends_on_one_node_log, answers_of_one_node, answers_of_one_node_log, ends_with_an_exception, ends_with_an_exception_log, doomed_falls, doomed_falls_log, answers_of_names, answers_of_names_log, watches_on_oneself, watches_on_oneself_log, links_doom, links_doom_log, asked_at_home, asked_at_home_log}
 
-one_node_are :
-    LogIs sends_on_one_node sends_on_one_node_log
-    × LogIs answers_of_one_node answers_of_one_node_log
-    × LogIs ends_with_an_exception ends_with_an_exception_log
-    × LogIs doomed_falls doomed_falls_log
-    × LogIs answers_of_names answers_of_names_log
-    × LogIs watches_on_oneself watches_on_oneself_log
-    × LogIs links_doom links_doom_log
-    × LogIs asked_at_home asked_at_home_log
+-- each row and its log
+record OneNodeAre : Type 0 where
+  -- three messages from one process to another of its node
+  sends_on_one_node_is : LogIs sends_on_one_node sends_on_one_node_log
+  -- a message taken, none there, and what a process that is over and one that was never made are answered
+  answers_of_one_node_is : LogIs answers_of_one_node answers_of_one_node_log
+  -- the same, where the process fails
+  ends_with_an_exception_is : LogIs ends_with_an_exception ends_with_an_exception_log
+  -- a doomed process acts no more until it falls, and its watcher takes the news
+  doomed_falls_is : LogIs doomed_falls doomed_falls_log
+  -- each answer that a name, a watch, a mailbox and a life can give
+  answers_of_names_is : LogIs answers_of_names answers_of_names_log
+  -- a watch on oneself is never told
+  watches_on_oneself_is : LogIs watches_on_oneself watches_on_oneself_log
+  -- a link dooms for every reason, by the word of the reason
+  links_doom_is : LogIs links_doom links_doom_log
+  -- spawns, questions for names, watches and dooms of the own node, there or not
+  asked_at_home_is : LogIs asked_at_home asked_at_home_log
+
+one_node_are : OneNodeAre
 unfolding digits encode_with decode_pairs host_at port_at_of_addresses read_address name_of piece_at tested_at name_at text_at long_at address_at process_at port_at_of_reading reference_at identifier_at reason_at found_at opening_at monitor_at unmonitor_at link_at unlink_at spawn_at did_spawn_at died_at where_is_at is_at_at named_send_at exit_at kill_at fields_at message_at whole identifier_of message_of user_of id_of give_of close_of created_of conn_of closed_of step_of newborn waiting_in appended given_to taken_from taken_from_port opened_by ended doomed make_of life_of doom_of end_of_of_mail put_of take_of take_port_of open_port_of waiting_of_of_mail first_of_mark first_of field_of last_of node_name_of digits_of word_of sent_mark_of bytes_of address_of host_of end_of_of_fields text_of number_in count_in process_of destination_parts destination_of named_of reference_of socket_of numbered numbered_target numbered_destination numbered_reference numbered_socket host_on host_next host_open host_connect host_send host_close host_close_endpoint host_room host_timer_runs line_of_word line_said only_node_line send_process_line place_line node_line away_line label_line stranger_line process_and_peer process_peer_and_text monitor_line link_line unwatch_line exit_line kill_line spawn_line whereis_line process_alone process_and_word proc_line send_line nsend_line again_line recv_line port_line take_line end_line fail_line fall_line register_line unregister_line socket_alone socket_and_end shut_line join_line come_line refuse_line feed_line cut_line lose_line late_line knock_line poke_line quit_line settle_line early_in declared_in peer_in stranger_in opener_in new_name new_address new_host new_label node_new node_make node_command node_event node_shut node_watched target_node node_life node_waiting node_args growing bound_between bind received arrives departs lost_told peer_lost spawned tell_spawned fail_unlabelled spawn_arrives found tell_found standing question_arrives doom_arrives send_of again_of receive_of take_port open_port finish_of fall_of drawn opening conn_to tell_first tell_node farewell over is_own life_here is_living has_port is_port_here make doom mail_to handle is_for_peer ask same_process same_port same_target is_pair pair_of next_epoch conns_by closed_pairs lost_pair watch watch_by unwatch_by doom_by question spawn_by whereis_by register_by unregister_by acting falling is_known known fitting not_full opened_besides not_spent room_to_send get deliver send_first carry say reconnect watch_under is_awaited closing monitor_told link_told told tell_end absent watch_arrives watch_leaves place_of add_of has_name has_number is_watch_of awaits node_of same_node same_ref nothing watch_of unwatch_of told_of waiting_of_of_watches lost_of arrive_of forget_of ending_of ended_of register_of unregister_of find_of
-one_node_are = (refl, refl, refl, refl, refl, refl, refl, refl)
+one_node_are = record { sends_on_one_node_is = refl; answers_of_one_node_is = refl; ends_with_an_exception_is = refl; doomed_falls_is = refl; answers_of_names_is = refl; watches_on_oneself_is = refl; links_doom_is = refl; asked_at_home_is = refl }

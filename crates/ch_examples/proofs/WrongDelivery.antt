@@ -1,5 +1,5 @@
 -- The right deliveries are as promised, and each wrong one is refused by the clause that it goes against.
-use Rattle.std.specs.Prelude.{◌≡◌, Bool, true, false}
+use Rattle.std.specs.Prelude.{◌≡◌, true, false}
 use Rattle.std.specs.Fmt.{digits}
 use Rattle.std.proofs.Common.{refl}
 use Rattle.ch_base.specs.Addresses.{read_address, host_at, port_at}
@@ -8,11 +8,14 @@ use Rattle.ch_model.specs.Breaks.{HasLicensedBreaks}
 use Rattle.ch_model.specs.Links.{FollowsLinkDiscipline}
 use Rattle.ch_model.specs.AccountsMessages.{IsCarried}
 use Rattle.ch_model.specs.Lawful.{IsPromised}
+use Rattle.ch_model.specs.Sharper.{IsSharper}
 use Rattle.ch_examples.specs.WrongDelivery.{one_message, one_message_log, without_bytes, before_the_last_byte, without_cause, answered_invalid, replaced, replaced_log, repeated, past_the_loss, old_socket_fed, old_socket_up}
 
+-- a test that fails doesn't pass
 is_not : false ≡ true → ⊥
 is_not h = cc
 
+-- this one is as promised
 one_message_is : IsPromised one_message one_message_log
 unfolding digits read_address host_at port_at
 one_message_is = record {
@@ -29,13 +32,13 @@ one_message_is = record {
       target_first = refl;
       dial_while_down = refl;
       dial_once = refl;
-      dial_in_order = refl
+      dial_in_order = refl;
     };
     life = record { numbered = refl; dooms_live = refl; dooms_caused = refl; over_once = refl; ends_caused = refl; dead_rest = refl };
     notices = record { of_open = refl; of_what_occurred = refl; truly_absent = refl; dooms_owners = refl; all_at_breaks = refl };
     references = record { next_number = refl; with_label = refl; one_made = refl; one_spawned = refl; spawned_the_made = refl; one_found = refl; found_what_stood = refl };
     names = record { free = refl; standing = refl; falls = refl };
-    mailboxes = record { from_mailboxes = refl; from_ports = refl }
+    mailboxes = record { from_mailboxes = refl; from_ports = refl };
   };
   answers = record { marked = refl; answered = refl; of_done_lines = refl; own_first = refl; settled_last = refl; in_place = refl; settle_feeds_all = refl };
   accounted_for = record {
@@ -48,20 +51,39 @@ one_message_is = record {
       true_ends = refl;
       read_requests = refl;
       read_answers = refl;
-      accepted_next = refl
+      accepted_next = refl;
     };
     of_messages = record { true_payloads = refl; got_by_bytes = refl; in_order_written = refl };
-    of_nodes = record { caused = refl; absent = refl; told = refl; answered = refl; made = refl; doomed = refl }
+    of_nodes = record { caused = refl; absent = refl; told = refl; answered = refl; made = refl; doomed = refl };
   };
   one_live_socket = refl;
   bundle = refl;
   whole = record {
     delivered = refl;
     notified = record { told = refl; answered = refl; doomed = refl };
-    at_rest = (record { none_pending = refl; all_read = refl; no_timer = refl; up_alike = refl }, tt)
-  }
+    at_rest = (record { none_pending = refl; all_read = refl; no_timer = refl; up_alike = refl }, tt);
+  };
 }
 
+-- it is sharper too
+one_message_sharper : IsSharper one_message one_message_log
+unfolding digits read_address host_at port_at
+one_message_sharper = record {
+  down_breaks = refl;
+  settle_as_lines = refl;
+  unlabelled_ends = refl;
+  own_spawn_answered = refl;
+  made_by_line = refl;
+  named_by_line = refl;
+  next_port = refl;
+  no_stranger_up = refl;
+  opener_up_first = refl;
+  target_number = refl;
+  got_at_once = refl;
+  shut_is_down = refl;
+}
+
+-- this one is as promised
 replaced_is : IsPromised replaced replaced_log
 unfolding digits read_address host_at port_at
 replaced_is = record {
@@ -78,13 +100,13 @@ replaced_is = record {
       target_first = refl;
       dial_while_down = refl;
       dial_once = refl;
-      dial_in_order = refl
+      dial_in_order = refl;
     };
     life = record { numbered = refl; dooms_live = refl; dooms_caused = refl; over_once = refl; ends_caused = refl; dead_rest = refl };
     notices = record { of_open = refl; of_what_occurred = refl; truly_absent = refl; dooms_owners = refl; all_at_breaks = refl };
     references = record { next_number = refl; with_label = refl; one_made = refl; one_spawned = refl; spawned_the_made = refl; one_found = refl; found_what_stood = refl };
     names = record { free = refl; standing = refl; falls = refl };
-    mailboxes = record { from_mailboxes = refl; from_ports = refl }
+    mailboxes = record { from_mailboxes = refl; from_ports = refl };
   };
   answers = record { marked = refl; answered = refl; of_done_lines = refl; own_first = refl; settled_last = refl; in_place = refl; settle_feeds_all = refl };
   accounted_for = record {
@@ -97,18 +119,36 @@ replaced_is = record {
       true_ends = refl;
       read_requests = refl;
       read_answers = refl;
-      accepted_next = refl
+      accepted_next = refl;
     };
     of_messages = record { true_payloads = refl; got_by_bytes = refl; in_order_written = refl };
-    of_nodes = record { caused = refl; absent = refl; told = refl; answered = refl; made = refl; doomed = refl }
+    of_nodes = record { caused = refl; absent = refl; told = refl; answered = refl; made = refl; doomed = refl };
   };
   one_live_socket = refl;
   bundle = refl;
   whole = record {
     delivered = refl;
     notified = record { told = refl; answered = refl; doomed = refl };
-    at_rest = (record { none_pending = refl; all_read = refl; no_timer = refl; up_alike = refl }, (record { none_pending = refl; all_read = refl; no_timer = refl; up_alike = refl }, (record { none_pending = refl; all_read = refl; no_timer = refl; up_alike = refl }, tt)))
-  }
+    at_rest = (record { none_pending = refl; all_read = refl; no_timer = refl; up_alike = refl }, (record { none_pending = refl; all_read = refl; no_timer = refl; up_alike = refl }, (record { none_pending = refl; all_read = refl; no_timer = refl; up_alike = refl }, tt)));
+  };
+}
+
+-- it is sharper too
+replaced_sharper : IsSharper replaced replaced_log
+unfolding digits read_address host_at port_at
+replaced_sharper = record {
+  down_breaks = refl;
+  settle_as_lines = refl;
+  unlabelled_ends = refl;
+  own_spawn_answered = refl;
+  made_by_line = refl;
+  named_by_line = refl;
+  next_port = refl;
+  no_stranger_up = refl;
+  opener_up_first = refl;
+  target_number = refl;
+  got_at_once = refl;
+  shut_is_down = refl;
 }
 
 -- repeats after reconnect

@@ -6,7 +6,6 @@ pub mod Losses
 pub mod Watches
 pub mod Strangers
 pub mod Refused
-pub mod Unlawful
 pub mod WrongParts
 pub mod WrongDelivery
 pub mod WrongLinks

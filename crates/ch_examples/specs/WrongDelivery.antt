@@ -1,5 +1,5 @@
 -- Wrong deliveries, each beside a right log. First a.0 says 1 to b.0, and b.0 gets it; then the socket is lost.
-use Rattle.std.specs.Prelude.{ℕ, List, [], ◌∷◌, ◌++◌}
+use Rattle.std.specs.Prelude.{List, [], ◌∷◌, ◌++◌}
 use Rattle.ch_base.specs.declared.event.Why.TheVariants.{Disconnect, NodeDown}
 use Rattle.ch_wire.specs.declared.answer.Answer.TheVariants as answers
 use Rattle.ch_model.specs.declared.name.End.TheVariants.{O, T}
@@ -8,15 +8,17 @@ use Rattle.ch_model.specs.declared.entry.Entry.{Entry}
 use Rattle.ch_model.specs.declared.entry.Entry.TheVariants as entries
 use Rattle.ch_model.specs.declared.line.Line.{Line}
 use Rattle.ch_model.specs.declared.line.What.TheVariants as lines
-use Rattle.ch_examples.specs.WrongParts.{a, b, a0, b0, at_a, at_b, ab, ba, journal_of, sends, sends_back, done, made, says, gets, says_back, gets_back, asks, replies, accepts, rises, links, opens, to_b0, writes, loses, hears_loss}
+use Rattle.ch_examples.specs.WrongParts.{a, b, a0, b0, at_a, ab, journal_of, sends, done, made, says, gets, asks, replies, links, opens, to_b0, writes, loses, hears_loss}
 
 -- one message
 abbrev pub one_message : List Line
 one_message = journal_of (sends 1 ∷ lines.Settle ∷ [])
 
+-- a.0 has said it, a has dialed, and the settle begins
 abbrev pub said_and_dialed : List Entry
 said_and_dialed = made ++ done 6 ∷ says 1 0 0 ∷ entries.Dial (ab 0) ∷ done 7 ∷ []
 
+-- its right log
 abbrev pub one_message_log : List Entry
 one_message_log = said_and_dialed ++ links (ab 0) ++ opens (ab 0) O to_b0 ++ writes (ab 0) O 1 ∷ entries.Fed (ab 0) T 58 ∷ gets 0 0 ∷ entries.Settled ∷ []
 
@@ -44,12 +46,15 @@ answered_invalid =
 abbrev pub replaced : List Line
 replaced = journal_of (sends 1 ∷ lines.Settle ∷ lines.Lose (ab 0) O ∷ lines.Settle ∷ sends 2 ∷ lines.Again a0 (targets.Process b0) ∷ sends 3 ∷ lines.Settle ∷ [])
 
+-- the loss at a, and what b hears of it
 abbrev pub lost : List Entry
 lost = one_message_log ++ done 8 ∷ loses (ab 0) ++ done 9 ∷ hears_loss (ab 0) ++ entries.Settled ∷ []
 
+-- what is said after the loss: 2, which goes nowhere, and 3 after the reconnect, for which a dials again
 abbrev pub said_after : List Entry
 said_after = lost ++ done 10 ∷ says 2 0 1 ∷ done 11 ∷ entries.Again a0 (targets.Process b0) 1 ∷ done 12 ∷ says 3 1 0 ∷ entries.Dial (ab 1) ∷ done 13 ∷ []
 
+-- its right log
 abbrev pub replaced_log : List Entry
 replaced_log = said_after ++ links (ab 1) ++ opens (ab 1) O to_b0 ++ writes (ab 1) O 3 ∷ entries.Fed (ab 1) T 58 ∷ gets 1 0 ∷ entries.Settled ∷ []
 

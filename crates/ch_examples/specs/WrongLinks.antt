@@ -1,5 +1,5 @@
 -- Wrong races, beside the right one: a.0 and b.0 say a message to each other, and both nodes dial.
-use Rattle.std.specs.Prelude.{ℕ, List, [], ◌∷◌, ◌++◌}
+use Rattle.std.specs.Prelude.{List, [], ◌∷◌, ◌++◌}
 use Rattle.ch_base.specs.declared.event.Why.TheVariants.{Disconnect}
 use Rattle.ch_wire.specs.declared.answer.Answer.TheVariants as answers
 use Rattle.ch_model.specs.declared.name.End.TheVariants.{O, T}
@@ -9,6 +9,7 @@ use Rattle.ch_model.specs.declared.line.Line.{Line}
 use Rattle.ch_model.specs.declared.line.What.TheVariants as lines
 use Rattle.ch_examples.specs.WrongParts.{a, b, at_a, at_b, ab, ba, journal_of, sends, sends_back, done, made, says, gets, says_back, gets_back, asks, replies, accepts, rises, opens, to_b0, to_a0, writes}
 
+-- two messages that cross
 abbrev pub crossed : List Line
 crossed = journal_of (sends 1 ∷ sends_back 2 ∷ lines.Settle ∷ [])
 

@@ -1,5 +1,5 @@
 -- The log is accounted for by its bytes: what a node does because of another it does by what was fed to it.
-use Rattle.std.specs.Prelude.{ℕ, Bool, true, false, not, ◌&&◌, ◌||◌, List, ◌++◌, Option, Some, None, IsTrue, codes}
+use Rattle.std.specs.Prelude.{ℕ, Bool, true, false, not, ◌&&◌, ◌||◌, List, Option, Some, None, IsTrue}
 use Rattle.std.specs.List.{list_any}
 use Rattle.std.specs.Str.{bytes_eq}
 use Rattle.ch_ident.specs.declared.reason.Reason.{Reason}
@@ -13,7 +13,6 @@ use Rattle.ch_model.specs.declared.entry.Entry.TheVariants as entries
 use Rattle.ch_model.specs.declared.line.Line.{Line}
 use Rattle.ch_model.specs.declared.line.What.{What}
 use Rattle.ch_model.specs.declared.line.What.TheVariants as lines
-use Rattle.ch_model.specs.Same.{same_process}
 use Rattle.ch_model.specs.Logs.{each, some_and, last_is}
 use Rattle.ch_model.specs.Marks.{does, line_of_reference}
 use Rattle.ch_model.specs.LifeRules.{dooms_by, tells_link}

@@ -1,17 +1,15 @@
 -- What ends write and read: one item at a time, requests and answers first, ids in order; and no more is fed than is unread.
-use Rattle.std.specs.Prelude.{ℕ, Bool, true, false, not, ◌&&◌, ◌||◌, List, [], length, take, drop, count_by, filter_map, Option, Some, None, IsTrue, ◌==◌, nat_le, nat_lt, ◌+◌, is_some, if◌then◌else◌}
+use Rattle.std.specs.Prelude.{ℕ, Bool, true, false, not, ◌&&◌, ◌||◌, List, length, take, filter_map, IsTrue, ◌==◌, nat_le, nat_lt, ◌+◌, is_some}
 use Rattle.std.specs.List.{list_any}
 use Rattle.std.specs.Str.{bytes_eq}
 use Rattle.ch_base.specs.declared.address.Address.{Address}
 use Rattle.ch_base.specs.Addresses.{address_text}
 use Rattle.ch_wire.specs.Words.{word_value, counted}
 use Rattle.ch_wire.specs.Spelling.{answer_spelling}
-use Rattle.ch_wire.specs.declared.answer.Answer.{Answer}
 use Rattle.ch_wire.specs.declared.answer.Answer.TheVariants.{Accepted}
 use Rattle.ch_wire.specs.declared.frame.Frame.{Frame}
 use Rattle.ch_wire.specs.declared.frame.Frame.TheVariants as frames
 use Rattle.ch_reader.specs.Reading.{reading}
-use Rattle.ch_reader.specs.declared.item.Expected.{Expected}
 use Rattle.ch_reader.specs.declared.item.Expected.TheVariants as expected
 use Rattle.ch_reader.specs.declared.item.Front.{Front}
 use Rattle.ch_reader.specs.declared.item.Front.TheVariants as fronts
@@ -22,7 +20,7 @@ use Rattle.ch_model.specs.declared.name.End.TheVariants.{O, T}
 use Rattle.ch_model.specs.declared.entry.Entry.{Entry}
 use Rattle.ch_model.specs.declared.entry.Entry.TheVariants as entries
 use Rattle.ch_model.specs.declared.line.Line.{Line}
-use Rattle.ch_model.specs.Same.{same_socket, same_end, across}
+use Rattle.ch_model.specs.Same.{same_socket}
 use Rattle.ch_model.specs.Logs.{each, each_between, some_and, none_or, next_is}
 use Rattle.ch_model.specs.Declarations.{address_of, is_stranger}
 use Rattle.ch_model.specs.Sockets.{written, fed, unread, has_ended_input, writings}

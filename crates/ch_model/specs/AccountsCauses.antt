@@ -1,12 +1,11 @@
 -- The causes of node messages, and what node messages bring about.
-use Rattle.std.specs.Prelude.{ℕ, Bool, true, false, not, ◌&&◌, ◌||◌, List, [], ◌∷◌, ◌++◌, length, Option, Some, None, IsTrue, is_some, codes, ◌==◌, cond, if◌then◌else◌}
-use Rattle.std.specs.List.{list_any, flat_map}
+use Rattle.std.specs.Prelude.{ℕ, Bool, true, false, not, ◌&&◌, ◌||◌, List, length, Option, Some, None, ◌==◌, if◌then◌else◌}
+use Rattle.std.specs.List.{list_any}
 use Rattle.std.specs.Str.{bytes_eq}
 use Rattle.ch_ident.specs.declared.reason.Reason.{Reason}
 use Rattle.ch_ident.specs.declared.reason.Reason.TheVariants as reasons
 use Rattle.ch_ident.specs.declared.node_message.NodeMessage.{NodeMessage}
 use Rattle.ch_ident.specs.declared.node_message.NodeMessage.TheVariants as messages
-use Rattle.ch_watch.specs.declared.waiting.Kind.{Kind}
 use Rattle.ch_model.specs.declared.name.ProcName.{ProcName}
 use Rattle.ch_model.specs.declared.name.RefName.{RefName}
 use Rattle.ch_model.specs.declared.name.SockName.{SockName}
@@ -17,8 +16,8 @@ use Rattle.ch_model.specs.declared.line.Line.{Line}
 use Rattle.ch_model.specs.declared.line.What.{What}
 use Rattle.ch_model.specs.declared.line.What.TheVariants as lines
 use Rattle.ch_model.specs.Same.{same_process, owner, across}
-use Rattle.ch_model.specs.Logs.{each, once, some_and, none_or}
-use Rattle.ch_model.specs.Marks.{does, line_of_reference, line_just_done}
+use Rattle.ch_model.specs.Logs.{once, some_and, none_or}
+use Rattle.ch_model.specs.Marks.{does, line_of_reference}
 use Rattle.ch_model.specs.Names.{stands}
 use Rattle.ch_model.specs.Watches.{Watching, watch_of}
 use Rattle.ch_model.specs.Sockets.{writings}
@@ -87,7 +86,7 @@ abbrev pub answers_question : List Line → List Entry → List ℕ → List ℕ
 answers_question journal log x y payload (entries.Asked question by at) =
     bytes_eq by.node y && bytes_eq at x
     && once (λ moment. has_read journal moment y x (asking_message journal moment question)
-        && some_and (answers_as_stood journal moment question payload) (line_of_reference journal moment question)) log
+    && some_and (answers_as_stood journal moment question payload) (line_of_reference journal moment question)) log
 answers_question journal log x y payload entry = false
 
 -- the payload of a node message of x towards y has a cause before it

@@ -1,10 +1,8 @@
 -- Which message each frame carries. What a node says to another, on pairs that don't wait to be reconnected, it writes in
 -- the order said, whichever sockets it goes on; a break of the link drops what isn't written yet.
-use Rattle.std.specs.Prelude.{ℕ, Bool, true, false, not, ◌&&◌, ◌||◌, List, [], ◌∷◌, ◌++◌, length, drop, take, filter_map, count_by, slice_get, Option, Some, None, ◌==◌, nat_lt, nat_le, ◌+◌, ◌-◌, cond, if◌then◌else◌}
+use Rattle.std.specs.Prelude.{ℕ, Bool, not, ◌&&◌, List, [], ◌∷◌, length, filter_map, slice_get, Option, Some, None, ◌==◌, nat_lt, nat_le, ◌+◌, cond, if◌then◌else◌}
 use Rattle.std.specs.Option.{option_map}
-use Rattle.std.specs.List.{list_any, flat_map}
 use Rattle.std.specs.Str.{bytes_eq}
-use Rattle.ch_base.specs.declared.address.Address.{Address}
 use Rattle.ch_ident.specs.Spelling as spelling
 use Rattle.ch_ident.specs.declared.identifier.Identifier.{Identifier}
 use Rattle.ch_ident.specs.declared.identifier.Identifier.TheVariants as identifiers
@@ -15,7 +13,6 @@ use Rattle.ch_model.specs.declared.name.SockName.{SockName}
 use Rattle.ch_model.specs.declared.name.TargetName.{TargetName}
 use Rattle.ch_model.specs.declared.name.TargetName.TheVariants as targets
 use Rattle.ch_model.specs.declared.name.End.{End}
-use Rattle.ch_model.specs.declared.name.End.TheVariants.{O, T}
 use Rattle.ch_model.specs.declared.entry.Entry.{Entry}
 use Rattle.ch_model.specs.declared.entry.Entry.TheVariants as entries
 use Rattle.ch_model.specs.declared.line.Line.{Line}
@@ -99,6 +96,7 @@ arriving_by journal s e log (entries.Wrote sock end bytes) =
     then Some (length bytes, carried journal (owner s (across e)) (owner s e) log (entries.Wrote sock end bytes)) else None
 arriving_by journal s e log entry = None
 
+-- what an item carries, if anything, before the others
 abbrev pub with_carried : Option Saying → List Saying → List Saying
 with_carried None others = others
 with_carried (Some saying) others = saying ∷ others

@@ -1,5 +1,5 @@
 -- Items that ends wrote: their frames, payloads and connections, read from bytes.
-use Rattle.std.specs.Prelude.{ℕ, suc, Bool, true, false, not, ◌&&◌, ◌||◌, List, [], ◌∷◌, length, drop, take, filter_map, find, count_by, Option, Some, None, ◌==◌, nat_le, ◌+◌, if◌then◌else◌}
+use Rattle.std.specs.Prelude.{ℕ, Bool, false, not, ◌&&◌, List, length, drop, filter_map, find, Option, Some, None, ◌==◌, if◌then◌else◌}
 use Rattle.std.specs.Option.{option_map}
 use Rattle.std.specs.List.{list_any}
 use Rattle.std.specs.Str.{bytes_eq}
@@ -21,7 +21,7 @@ use Rattle.ch_model.specs.declared.name.End.{End}
 use Rattle.ch_model.specs.declared.name.End.TheVariants.{O, T}
 use Rattle.ch_model.specs.declared.entry.Entry.{Entry}
 use Rattle.ch_model.specs.declared.line.Line.{Line}
-use Rattle.ch_model.specs.Logs.{some_and, first_of}
+use Rattle.ch_model.specs.Logs.{some_and}
 use Rattle.ch_model.specs.Declarations.{address_of}
 use Rattle.ch_model.specs.Sockets.{writings}
 

@@ -1,11 +1,8 @@
 -- Users' messages by their bytes: each payload carries what was said, and each message is got by the bytes that were fed last.
-use Rattle.std.specs.Prelude.{ℕ, Bool, true, false, not, ◌&&◌, ◌||◌, List, [], length, position, filter_map, Option, Some, None, IsTrue, ◌==◌, nat_lt, ◌-◌, is_some, cond, if◌then◌else◌}
+use Rattle.std.specs.Prelude.{ℕ, Bool, true, false, not, ◌&&◌, ◌||◌, List, length, position, Option, Some, None, IsTrue, ◌==◌, nat_lt, ◌-◌, is_some, if◌then◌else◌}
 use Rattle.std.specs.List.{list_any, list_all}
 use Rattle.std.specs.Str.{bytes_eq}
-use Rattle.ch_model.specs.declared.name.ProcName.{ProcName}
 use Rattle.ch_model.specs.declared.name.SockName.{SockName}
-use Rattle.ch_model.specs.declared.name.TargetName.{TargetName}
-use Rattle.ch_model.specs.declared.name.TargetName.TheVariants as targets
 use Rattle.ch_model.specs.declared.name.End.{End}
 use Rattle.ch_model.specs.declared.entry.Entry.{Entry}
 use Rattle.ch_model.specs.declared.entry.Entry.TheVariants as entries
@@ -47,12 +44,13 @@ writes_true_data journal log (entries.Wrote sock end bytes) =
     length (writings log sock end) == 0 || none_or (is_true_data journal log sock end) (data_written log sock end bytes)
 writes_true_data journal log entry = true
 
--- what is fed by an entry: to which end, and how many bytes
+-- a feeding: to which end, and how many bytes
 pub record Feeding : Type 0 where
   pub sock : SockName
   pub end : End
   pub count : ℕ
 
+-- what the entry feeds
 abbrev pub feeding : Entry → Option Feeding
 feeding (entries.Fed sock end count) = Some (record { sock = sock; end = end; count = count })
 feeding entry = None

@@ -1,12 +1,11 @@
 -- Messages from node to node by their bytes: each that is written has a cause before it, and what it brings about stands after it was read.
-use Rattle.std.specs.Prelude.{ℕ, Bool, true, false, not, ◌&&◌, ◌||◌, List, [], ◌∷◌, ◌++◌, drop, filter_map, Option, Some, None, IsTrue, is_some, codes, if◌then◌else◌}
+use Rattle.std.specs.Prelude.{ℕ, Bool, false, List, drop, filter_map, Option, Some, None, if◌then◌else◌}
 use Rattle.std.specs.List.{list_any, flat_map}
 use Rattle.std.specs.Str.{bytes_eq}
 use Rattle.ch_ident.specs.Spelling as spelling
 use Rattle.ch_ident.specs.declared.identifier.ProcessId.{ProcessId}
 use Rattle.ch_ident.specs.declared.identifier.Ref.{Ref}
 use Rattle.ch_ident.specs.declared.reason.Reason.{Reason}
-use Rattle.ch_ident.specs.declared.reason.Reason.TheVariants as reasons
 use Rattle.ch_ident.specs.declared.node_message.NodeMessage.{NodeMessage}
 use Rattle.ch_ident.specs.declared.node_message.NodeMessage.TheVariants as messages
 use Rattle.ch_watch.specs.declared.waiting.Kind.{Kind}
@@ -14,7 +13,6 @@ use Rattle.ch_watch.specs.declared.waiting.Kind.TheVariants as kinds
 use Rattle.ch_model.specs.declared.name.ProcName.{ProcName}
 use Rattle.ch_model.specs.declared.name.RefName.{RefName}
 use Rattle.ch_model.specs.declared.name.SockName.{SockName}
-use Rattle.ch_model.specs.declared.name.End.{End}
 use Rattle.ch_model.specs.declared.entry.Entry.{Entry}
 use Rattle.ch_model.specs.declared.entry.Entry.TheVariants as entries
 use Rattle.ch_model.specs.declared.line.Line.{Line}

@@ -1,12 +1,10 @@
 -- The answer to each event line, as the log before it shows.
-use Rattle.std.specs.Prelude.{ℕ, Bool, true, false, not, ◌&&◌, ◌||◌, List, ◌++◌, length, Option, Some, None, ◌==◌, nat_lt, nat_le, is_some, is_none, if◌then◌else◌}
+use Rattle.std.specs.Prelude.{ℕ, Bool, true, false, not, ◌&&◌, ◌||◌, List, length, Some, None, nat_lt, nat_le, is_some, is_none, if◌then◌else◌}
 use Rattle.std.specs.Str.{bytes_eq}
 use Rattle.ch_ident.specs.Spelling as spelling
 use Rattle.ch_ident.specs.declared.node_message.NodeMessage.TheVariants as messages
-use Rattle.ch_ident.specs.declared.identifier.Ref.{Ref}
 use Rattle.ch_model.specs.declared.name.ProcName.{ProcName}
 use Rattle.ch_model.specs.declared.name.SockName.{SockName}
-use Rattle.ch_model.specs.declared.name.TargetName.{TargetName}
 use Rattle.ch_model.specs.declared.name.TargetName.TheVariants as targets
 use Rattle.ch_model.specs.declared.name.End.{End}
 use Rattle.ch_model.specs.declared.name.End.TheVariants.{O, T}
@@ -16,17 +14,16 @@ use Rattle.ch_model.specs.declared.entry.Verdict.TheVariants.{Ok, Unknown, Dead,
 use Rattle.ch_model.specs.declared.line.Line.{Line}
 use Rattle.ch_model.specs.declared.line.What.{What}
 use Rattle.ch_model.specs.declared.line.What.TheVariants as lines
-use Rattle.ch_model.specs.Stages.{is_pending, is_open, is_ended}
-use Rattle.ch_model.specs.Same.{same_process, node_of, end_of, across}
+use Rattle.ch_model.specs.Stages.{is_pending, is_open}
+use Rattle.ch_model.specs.Same.{same_process, node_of}
 use Rattle.ch_model.specs.Logs.{some_and}
-use Rattle.ch_model.specs.Declarations.{has_host, is_stranger, reference_id}
+use Rattle.ch_model.specs.Declarations.{has_host, is_stranger}
 use Rattle.ch_model.specs.Life.{is_made, is_over, is_doomed, is_live, is_shut}
 use Rattle.ch_model.specs.Names.{stands}
 use Rattle.ch_model.specs.Watches.{Watching, watch_of, is_open as is_watch_open}
 use Rattle.ch_model.specs.Delivery.{is_there}
 use Rattle.ch_model.specs.Mailboxes.{has_marked, has_in_port}
 use Rattle.ch_model.specs.Sockets.{stands_at, unread, is_cut, has_ended_input}
-use Rattle.ch_model.specs.Links.{is_up_with}
 use Rattle.ch_model.specs.AnswersCounts.{acting, directed_to, says_to_broken, sends_between, waiting, connections, begins_epoch, timer_runs}
 
 -- the line falls

@@ -1,5 +1,5 @@
 -- What the answers to event lines count in the log before: what waits, which connections were opened, which timers run.
-use Rattle.std.specs.Prelude.{ℕ, suc, Bool, true, false, not, ◌&&◌, ◌||◌, List, count_by, filter_map, length, Option, Some, None, ◌==◌, nat_lt, nat_le, if◌then◌else◌}
+use Rattle.std.specs.Prelude.{ℕ, Bool, false, not, ◌&&◌, ◌||◌, List, count_by, length, Option, Some, None, ◌==◌, nat_lt, if◌then◌else◌}
 use Rattle.std.specs.Option.{option_map}
 use Rattle.std.specs.List.{list_any}
 use Rattle.std.specs.Str.{bytes_eq}
@@ -7,14 +7,13 @@ use Rattle.ch_wire.specs.Spelling.{frame_spelling}
 use Rattle.ch_wire.specs.declared.frame.Frame.TheVariants as frames
 use Rattle.ch_model.specs.declared.name.ProcName.{ProcName}
 use Rattle.ch_model.specs.declared.name.SockName.{SockName}
-use Rattle.ch_model.specs.declared.name.TargetName.{TargetName}
 use Rattle.ch_model.specs.declared.entry.Entry.{Entry}
 use Rattle.ch_model.specs.declared.entry.Entry.TheVariants as entries
 use Rattle.ch_model.specs.declared.line.Line.{Line}
 use Rattle.ch_model.specs.declared.line.What.{What}
 use Rattle.ch_model.specs.declared.line.What.TheVariants as lines
-use Rattle.ch_model.specs.Same.{node_of, end_of, across}
-use Rattle.ch_model.specs.Logs.{since, collected, first_of, some_and}
+use Rattle.ch_model.specs.Same.{node_of, end_of}
+use Rattle.ch_model.specs.Logs.{since, collected, some_and}
 use Rattle.ch_model.specs.Marks.{done_by}
 use Rattle.ch_model.specs.Epochs.{breaks, is_broken, epoch_of, index_of}
 use Rattle.ch_model.specs.Life.{is_shut}
@@ -98,7 +97,7 @@ begins_epoch log what = false
 abbrev pub awaits_answer : List Entry → List ℕ → SockName → Bool
 awaits_answer log x sock =
     nat_lt (count_by (bytes_eq (frame_spelling frames.ProbeAck)) (read_pieces log sock (end_of x sock)))
-        (count_by (bytes_eq (frame_spelling frames.Probe)) (writings log sock (end_of x sock)))
+    (count_by (bytes_eq (frame_spelling frames.Probe)) (writings log sock (end_of x sock)))
 
 -- The timer of x for y runs: x isn't shut, and it isn't up and has dialed since its last break, or is up and awaits the answer to a probe.
 abbrev pub timer_runs : List Entry → List ℕ → List ℕ → Bool

@@ -1,5 +1,5 @@
 -- What the own entries of lines are: tests of one entry each.
-use Rattle.std.specs.Prelude.{ℕ, Bool, true, false, ◌&&◌, List, Option, Some, None, ◌==◌}
+use Rattle.std.specs.Prelude.{ℕ, Bool, false, ◌&&◌, List, Option, Some, None, ◌==◌}
 use Rattle.std.specs.Str.{bytes_eq}
 use Rattle.ch_watch.specs.declared.waiting.Kind.{Kind}
 use Rattle.ch_watch.specs.declared.waiting.Kind.TheVariants as kinds

@@ -1,9 +1,8 @@
 -- The own entry of each line: what a line that was done has first.
-use Rattle.std.specs.Prelude.{ℕ, Bool, true, false, not, ◌&&◌, List, ◌++◌, count_by, length, min, Option, Some, None, codes, if◌then◌else◌}
+use Rattle.std.specs.Prelude.{Bool, true, false, ◌&&◌, List, ◌++◌, count_by, length, min, Some, None, codes, if◌then◌else◌}
 use Rattle.std.specs.Str.{bytes_eq}
 use Rattle.ch_ident.specs.declared.reason.Reason.TheVariants as reasons
 use Rattle.ch_watch.specs.declared.waiting.Kind.TheVariants as kinds
-use Rattle.ch_model.specs.declared.name.ProcName.{ProcName}
 use Rattle.ch_model.specs.declared.entry.Entry.{Entry}
 use Rattle.ch_model.specs.declared.line.Line.{Line}
 use Rattle.ch_model.specs.declared.line.What.{What}

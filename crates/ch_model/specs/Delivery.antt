@@ -1,5 +1,5 @@
 -- The one promise: a message is got only if it was said before its epoch broke, in order and once, by a receiver that lives.
-use Rattle.std.specs.Prelude.{ℕ, Bool, true, false, not, ◌&&◌, ◌||◌, List, count_by, Option, Some, None, IsTrue, ◌==◌, nat_lt, is_some, cond}
+use Rattle.std.specs.Prelude.{ℕ, Bool, true, false, not, ◌&&◌, ◌||◌, List, count_by, Option, Some, IsTrue, ◌==◌, nat_lt}
 use Rattle.std.specs.List.{list_any}
 use Rattle.std.specs.Str.{bytes_eq}
 use Rattle.ch_model.specs.declared.name.ProcName.{ProcName}

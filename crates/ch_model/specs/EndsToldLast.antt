@@ -1,5 +1,5 @@
 -- An end is told last: where a watch is told that its target ended, all that the target said to the watcher was got before.
-use Rattle.std.specs.Prelude.{ℕ, Bool, true, false, not, ◌&&◌, ◌||◌, List, Option, Some, None, IsTrue}
+use Rattle.std.specs.Prelude.{ℕ, Bool, true, false, not, ◌&&◌, ◌||◌, List, IsTrue}
 use Rattle.std.specs.List.{list_any, list_all}
 use Rattle.ch_ident.specs.declared.reason.Reason.{Reason}
 use Rattle.ch_ident.specs.declared.reason.Reason.TheVariants as reasons

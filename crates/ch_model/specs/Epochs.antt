@@ -1,5 +1,5 @@
 -- Epochs and indexes. A pair is a sending process and a target. Its messages are numbered by an epoch and an index in it.
-use Rattle.std.specs.Prelude.{◌≡◌, ℕ, suc, Bool, true, false, not, ◌&&◌, List, count_by, Option, Some, None, ◌==◌, IsTrue, if◌then◌else◌}
+use Rattle.std.specs.Prelude.{ℕ, suc, Bool, true, false, not, ◌&&◌, List, count_by, Option, Some, None, ◌==◌, IsTrue, if◌then◌else◌}
 use Rattle.std.specs.List.{list_any}
 use Rattle.std.specs.Str.{bytes_eq}
 use Rattle.ch_model.specs.declared.name.ProcName.{ProcName}

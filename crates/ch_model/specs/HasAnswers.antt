@@ -10,7 +10,6 @@ use Rattle.ch_model.specs.declared.line.What.{What}
 use Rattle.ch_model.specs.declared.line.What.TheVariants as lines
 use Rattle.ch_model.specs.Logs.{each, each_between, some_and, none_or, next_is}
 use Rattle.ch_model.specs.Marks.{line_numbered, current_line, line_just_done, is_settle, in_settle, is_mark}
-use Rattle.ch_model.specs.Breaks.{is_settled}
 use Rattle.ch_model.specs.Sockets.{unread}
 use Rattle.ch_model.specs.Answers.{answer_to}
 use Rattle.ch_model.specs.AnswersOwn.{is_own, has_own}

@@ -82,3 +82,4 @@ pub mod Rest
 pub mod Lawful
 pub mod EndsToldLast
 pub mod Sharper
+pub mod Isolation

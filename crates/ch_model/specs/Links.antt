@@ -1,14 +1,14 @@
 -- Link discipline: when a node may come up on a socket, go down, leave it or dial, and that at most one socket of a pair is live.
-use Rattle.std.specs.Prelude.{ℕ, Bool, true, false, not, ◌&&◌, ◌||◌, List, count_by, filter, filter_map, Option, Some, None, IsTrue, nat_le, ◌==◌, is_some, length, if◌then◌else◌}
-use Rattle.std.specs.List.{list_any, list_all}
+use Rattle.std.specs.Prelude.{ℕ, Bool, true, false, not, ◌&&◌, List, count_by, filter, filter_map, Option, Some, None, IsTrue, nat_le, ◌==◌, length, if◌then◌else◌}
+use Rattle.std.specs.List.{list_any}
 use Rattle.std.specs.Str.{bytes_eq}
 use Rattle.ch_model.specs.declared.name.SockName.{SockName}
 use Rattle.ch_model.specs.declared.name.End.{End}
 use Rattle.ch_model.specs.declared.name.End.TheVariants.{O, T}
 use Rattle.ch_model.specs.declared.entry.Entry.{Entry}
 use Rattle.ch_model.specs.declared.entry.Entry.TheVariants as entries
-use Rattle.ch_model.specs.Same.{same_socket, same_end, same_pair, is_end_of, end_of, owner, across}
-use Rattle.ch_model.specs.Logs.{each, always, since}
+use Rattle.ch_model.specs.Same.{same_socket, same_end, is_end_of, end_of, owner, across}
+use Rattle.ch_model.specs.Logs.{each, since}
 use Rattle.ch_model.specs.Epochs.{breaks}
 use Rattle.ch_model.specs.Sockets.{closes}
 

@@ -1,14 +1,13 @@
 -- One live socket: at each moment at most one socket of each pair of nodes is live, and none is accepted over a link that is up.
-use Rattle.std.specs.Prelude.{ℕ, Bool, true, false, not, ◌&&◌, ◌||◌, List, count_by, filter, filter_map, Option, Some, None, IsTrue, nat_le, cond}
+use Rattle.std.specs.Prelude.{Bool, true, not, ◌&&◌, ◌||◌, List, count_by, filter, filter_map, Option, Some, None, IsTrue, nat_le}
 use Rattle.std.specs.List.{list_any, list_all}
 use Rattle.ch_model.specs.declared.name.SockName.{SockName}
-use Rattle.ch_model.specs.declared.name.End.{End}
 use Rattle.ch_model.specs.declared.name.End.TheVariants.{O, T}
 use Rattle.ch_model.specs.declared.entry.Entry.{Entry}
 use Rattle.ch_model.specs.declared.entry.Entry.TheVariants as entries
-use Rattle.ch_model.specs.Same.{same_pair}
+use Rattle.ch_model.specs.Same.{same_socket, same_pair}
 use Rattle.ch_model.specs.Logs.{each, always}
-use Rattle.ch_model.specs.Links.{is_closed, is_up_with, leaves}
+use Rattle.ch_model.specs.Links.{is_closed, up_sockets, leaves}
 
 -- the socket on which its target comes up by this entry
 abbrev pub accepted_by : Entry → Option SockName
@@ -27,9 +26,9 @@ live_sockets log = filter (is_unclosed log) (filter_map accepted_by log)
 abbrev pub has_one_live : List Entry → Bool
 has_one_live log = list_all (λ sock. nat_le (count_by (same_pair sock) (live_sockets log)) 1) (live_sockets log)
 
--- neither node of the socket is up with the other
+-- neither node of the socket is up on another socket of the pair
 abbrev pub are_down : List Entry → SockName → Bool
-are_down log sock = not (is_up_with log sock.from sock.to) && not (is_up_with log sock.to sock.from)
+are_down log sock = list_all (same_socket sock) (up_sockets log sock.from sock.to) && list_all (same_socket sock) (up_sockets log sock.to sock.from)
 
 -- a target comes up on a socket that its opener hasn't left only while neither node is up on another
 abbrev pub accepts_while_down : List Entry → Entry → Bool

@@ -1,6 +1,5 @@
 -- How a log is looked through: an entry at a time, with the log before it. A moment is a log as it stood between two entries.
-use Rattle.std.specs.Prelude.{ℕ, Bool, true, false, ◌&&◌, ◌||◌, cond, List, [], ◌∷◌, ◌++◌, fold, Option, Some, None}
-use Rattle.std.specs.List.{list_any}
+use Rattle.std.specs.Prelude.{Bool, true, false, ◌&&◌, ◌||◌, cond, List, [], ◌∷◌, ◌++◌, fold, Option, Some, None}
 use Rattle.ch_model.specs.declared.entry.Entry.{Entry}
 
 -- the rest of a log passes a test of each entry and the log before it
@@ -90,6 +89,7 @@ next_is test (entry ∷ rest) = test entry
 abbrev pub last_is : (Entry → Bool) → List Entry → Bool
 last_is test log = some_and test (last_entry log)
 
+-- what is found, if anything, after what was kept
 abbrev pub kept_with : {B : Type 0} → Option B → List B → List B
 kept_with None kept = kept
 kept_with (Some x) kept = kept ++ x ∷ []

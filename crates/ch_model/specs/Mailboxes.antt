@@ -1,8 +1,7 @@
 -- Mailboxes and ports: what a process takes is what has entered there, in that order.
-use Rattle.std.specs.Prelude.{ℕ, Bool, true, false, ◌&&◌, List, [], ◌∷◌, ◌++◌, count_by, filter_map, slice_get, Option, Some, None, IsTrue, ◌==◌, length, nat_lt, codes, if◌then◌else◌}
+use Rattle.std.specs.Prelude.{ℕ, Bool, true, false, ◌&&◌, List, [], ◌++◌, count_by, filter_map, slice_get, Option, Some, None, IsTrue, ◌==◌, length, nat_lt, codes, if◌then◌else◌}
 use Rattle.std.specs.Option.{option_map}
 use Rattle.std.specs.Str.{bytes_eq}
-use Rattle.ch_ident.specs.declared.identifier.ProcessId.{ProcessId}
 use Rattle.ch_ident.specs.declared.identifier.Ref.{Ref}
 use Rattle.ch_ident.specs.declared.message.Message.{Message}
 use Rattle.ch_ident.specs.Spelling as spelling
@@ -19,7 +18,7 @@ use Rattle.ch_model.specs.Logs.{each, collected, never, first_of, some_and}
 use Rattle.ch_model.specs.Declarations.{process_id, reference_id}
 use Rattle.ch_model.specs.Marks.{owner_of_reference}
 use Rattle.ch_model.specs.Epochs.{says_it}
-use Rattle.ch_model.specs.Watches.{Watching, watch_of}
+use Rattle.ch_model.specs.Watches.{watch_of}
 
 -- the message that the entry says, where it is of this pair, epoch and index
 abbrev pub said_as : ProcName → TargetName → ℕ → ℕ → Entry → Option Message

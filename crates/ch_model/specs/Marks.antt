@@ -1,8 +1,7 @@
 -- The marks that answer event lines: which lines were done, and in which line an entry stands.
-use Rattle.std.specs.Prelude.{ℕ, Bool, true, false, ◌&&◌, List, [], ◌∷◌, Option, Some, None, ◌==◌, if◌then◌else◌, find, slice_get, count_by, filter_map}
+use Rattle.std.specs.Prelude.{ℕ, Bool, true, false, List, Option, Some, None, ◌==◌, if◌then◌else◌, find, slice_get, count_by, filter_map}
 use Rattle.std.specs.Option.{option_map}
 use Rattle.std.specs.Str.{bytes_eq}
-use Rattle.std.specs.List.{list_any}
 use Rattle.ch_model.specs.declared.name.ProcName.{ProcName}
 use Rattle.ch_model.specs.declared.name.RefName.{RefName}
 use Rattle.ch_model.specs.declared.entry.Entry.{Entry}

@@ -19,6 +19,7 @@ abbrev pub names_as : List ℕ → List ℕ → Entry → Option (Option ProcNam
 names_as x w (entries.Named node name process) = elim (bytes_eq node x && bytes_eq name w) [ true ↦ Some process | false ↦ None ]
 names_as x w entry = None
 
+-- nothing for a name that no entry is of
 abbrev pub flat : Option (Option ProcName) → Option ProcName
 flat None = None
 flat (Some found) = found

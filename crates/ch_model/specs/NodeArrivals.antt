@@ -1,6 +1,6 @@
 -- Connections that arrive at a node: what each is bound to by its opening message, and what comes on it; and how a
 -- failed link with a peer leaves the node.
-use Rattle.std.specs.Prelude.{ℕ, Bool, not, ◌&&◌, ◌==◌, List, [], ◌∷◌, ◌++◌, map, filter, find, Option, Some, None, Result, Ok, Err, if◌then◌else◌}
+use Rattle.std.specs.Prelude.{ℕ, not, ◌&&◌, ◌==◌, List, [], ◌∷◌, ◌++◌, map, filter, find, Option, Some, None, Result, Ok, Err, if◌then◌else◌}
 use Rattle.ch_base.specs.declared.address.Address.{Address}
 use Rattle.ch_base.specs.declared.event.Why.{Why}
 use Rattle.ch_ident.specs.declared.error.IdentError.{IdentError}

@@ -1,6 +1,6 @@
 -- What a node makes of a process's commands on its messages and on its own end, with the refusals in the order in which
 -- they are tried.
-use Rattle.std.specs.Prelude.{ℕ, List, [], ◌∷◌, Option, Some, None, Result, Ok, Err}
+use Rattle.std.specs.Prelude.{ℕ, List, [], ◌∷◌, Some, None, Ok}
 use Rattle.ch_base.specs.declared.event.Room.{Room}
 use Rattle.ch_ident.specs.declared.message.Message.{Message}
 use Rattle.ch_ident.specs.declared.reason.Reason.{Reason}

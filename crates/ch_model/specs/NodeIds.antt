@@ -1,5 +1,5 @@
 -- Which processes, ports and references are the node's own, and whether they are there.
-use Rattle.std.specs.Prelude.{ℕ, Bool, false, not, ◌&&◌, ◌==◌, List, Option, Some, None, length, nat_lt, slice_get, is_some, if◌then◌else◌}
+use Rattle.std.specs.Prelude.{ℕ, Bool, false, not, ◌&&◌, ◌==◌, List, Option, None, length, nat_lt, slice_get, if◌then◌else◌}
 use Rattle.std.specs.Option.{option_map_or}
 use Rattle.ch_base.specs.declared.address.Address.{Address}
 use Rattle.ch_ident.specs.declared.identifier.ProcessId.{ProcessId}

@@ -1,5 +1,5 @@
 -- How a process of a node begins, and how it is doomed; and the node's own messages into mailboxes.
-use Rattle.std.specs.Prelude.{ℕ, List, [], ◌∷◌, ◌++◌, Option, None, Result, Ok, Err, codes, if◌then◌else◌}
+use Rattle.std.specs.Prelude.{ℕ, List, [], ◌∷◌, ◌++◌, Option, None, Result, Ok, codes, if◌then◌else◌}
 use Rattle.ch_base.specs.declared.memory.Stop.{Stop}
 use Rattle.ch_base.specs.declared.event.Why.{Why}
 use Rattle.ch_base.specs.declared.event.Why.TheVariants as whys
@@ -9,7 +9,6 @@ use Rattle.ch_mail.specs.Process.{Process}
 use Rattle.ch_mail.specs.Mail.{make_of, doom_of, put_of}
 use Rattle.ch_model.specs.declared.note.Note.TheVariants as notes
 use Rattle.ch_model.specs.declared.note.Origin.{Origin}
-use Rattle.ch_model.specs.declared.act.Act.{Act}
 use Rattle.ch_model.specs.declared.act.Act.TheVariants as acts
 use Rattle.ch_model.specs.NodeState.{NodeState}
 use Rattle.ch_model.specs.NodeActs.{◌>>=◌, Done, doing, noting, or_unchanged}

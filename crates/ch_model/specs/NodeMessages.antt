@@ -1,5 +1,5 @@
 -- What a node makes of a message from node to node, and how a command sends one.
-use Rattle.std.specs.Prelude.{ℕ, Bool, true, List, Option, None, if◌then◌else◌}
+use Rattle.std.specs.Prelude.{Bool, true, None, if◌then◌else◌}
 use Rattle.ch_base.specs.declared.address.Address.{Address}
 use Rattle.ch_ident.specs.declared.node_message.NodeMessage.{NodeMessage}
 use Rattle.ch_ident.specs.declared.node_message.NodeMessage.TheVariants.{Monitor, Unmonitor, Link, Unlink, Spawn, DidSpawn, Died, WhereIs, IsAt, Exit, Kill}

@@ -1,6 +1,6 @@
 -- What a node makes of a process's commands on other processes and on names, with the refusals in the order in which
 -- they are tried.
-use Rattle.std.specs.Prelude.{ℕ, List, [], ◌∷◌, Option, Some, None, Result, Ok, Err, ok_or, if◌then◌else◌}
+use Rattle.std.specs.Prelude.{ℕ, List, [], ◌∷◌, Some, None, Ok, ok_or, if◌then◌else◌}
 use Rattle.ch_base.specs.declared.address.Address.{Address}
 use Rattle.ch_base.specs.declared.event.Room.{Room}
 use Rattle.ch_ident.specs.declared.identifier.ProcessId.{ProcessId}

@@ -1,7 +1,8 @@
 -- Whether a process may act, and whether what its command sends finds room.
-use Rattle.std.specs.Prelude.{ℕ, ◌-◌, Bool, true, false, not, ◌&&◌, ◌||◌, List, length, Option, Some, None, Result, Ok, Err, is_some, nat_le, if◌then◌else◌}
+use Rattle.std.specs.Prelude.{ℕ, ◌-◌, Bool, true, false, not, ◌&&◌, ◌||◌, List, length, Option, Some, None, Result, Ok, Err, is_some, nat_lt, nat_le, if◌then◌else◌}
 use Rattle.ch_base.specs.declared.address.Address.{Address}
 use Rattle.ch_base.specs.declared.event.Room.{Room}
+use Rattle.ch_wire.specs.declared.TheConstants.{MOST_PAYLOAD_BYTES}
 use Rattle.ch_mail.specs.declared.life.Life.{Life}
 use Rattle.ch_mail.specs.declared.life.Life.TheVariants as lives
 use Rattle.ch_mail.specs.Mail.{life_of}
@@ -9,14 +10,10 @@ use Rattle.ch_static.specs.declared.target.Target.{Target}
 use Rattle.ch_static.specs.declared.target.Target.TheVariants as targets
 use Rattle.ch_model.specs.declared.command.CommandError.{CommandError}
 use Rattle.ch_model.specs.declared.command.CommandError.TheVariants.{Unknown, Dead, Hale, Long, Full, Spent}
-use Rattle.ch_model.specs.NodeState.{NodeState, Pair, Mark, Unopened, Opened, Broken}
+use Rattle.ch_model.specs.NodeState.{NodeState, Pair, Mark, Unopened, Broken}
 use Rattle.ch_model.specs.NodeActs.{◌>>=◌}
 use Rattle.ch_model.specs.NodeIds.{is_here, life_here, is_port_here, target_at}
 use Rattle.ch_model.specs.NodeConnections.{conn_to}
-
--- the bytes of the longest payload
-abbrev pub longest : ℕ
-longest = 65536
 
 -- how many counted payloads may wait for a link
 abbrev pub most_waiting : ℕ
@@ -57,6 +54,10 @@ is_known node (targets.Named at name) = true
 -- what is sent to may be there
 unfoldable pub known : NodeState → Target → Result (Unit {0}) CommandError
 known node to = if is_known node to then Ok tt else Err Unknown
+
+-- the most bytes of a payload
+abbrev pub longest : ℕ
+longest = MOST_PAYLOAD_BYTES
 
 -- a payload fits in one frame
 unfoldable pub fitting : List ℕ → Result (Unit {0}) CommandError

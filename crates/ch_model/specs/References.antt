@@ -1,7 +1,6 @@
 -- References: each watch, spawn and question for a name takes its node's next number, and is answered at most once.
-use Rattle.std.specs.Prelude.{ℕ, suc, Bool, true, false, not, ◌&&◌, ◌||◌, List, Option, Some, None, IsTrue, ◌==◌, nat_lt, cond}
+use Rattle.std.specs.Prelude.{suc, Bool, true, false, not, ◌&&◌, ◌||◌, List, Option, Some, None, IsTrue, ◌==◌}
 use Rattle.std.specs.List.{list_any}
-use Rattle.std.specs.Str.{bytes_eq}
 use Rattle.ch_model.specs.declared.name.ProcName.{ProcName}
 use Rattle.ch_model.specs.declared.name.RefName.{RefName}
 use Rattle.ch_model.specs.declared.entry.Entry.{Entry}

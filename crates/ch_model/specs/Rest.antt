@@ -1,6 +1,6 @@
 -- Rest: nothing is left to happen without loss.
-use Rattle.std.specs.Prelude.{ℕ, Bool, true, false, not, ◌&&◌, ◌||◌, List, [], ◌∷◌, ◌++◌, length, filter_map, Option, Some, None, IsTrue, ◌==◌, cond}
-use Rattle.std.specs.List.{list_any, list_all}
+use Rattle.std.specs.Prelude.{ℕ, Bool, true, false, not, ◌&&◌, ◌||◌, List, [], ◌∷◌, ◌++◌, length, filter_map, Option, Some, None, IsTrue, ◌==◌}
+use Rattle.std.specs.List.{list_all}
 use Rattle.std.specs.Str.{bytes_eq}
 use Rattle.ch_model.specs.declared.name.SockName.{SockName}
 use Rattle.ch_model.specs.declared.name.End.{End}
@@ -8,9 +8,8 @@ use Rattle.ch_model.specs.declared.name.End.TheVariants.{O, T}
 use Rattle.ch_model.specs.declared.entry.Entry.{Entry}
 use Rattle.ch_model.specs.declared.entry.Entry.TheVariants as entries
 use Rattle.ch_model.specs.declared.line.Line.{Line}
-use Rattle.ch_model.specs.Stages.{is_pending, is_ended}
-use Rattle.ch_model.specs.Same.{same_socket, across}
-use Rattle.ch_model.specs.Logs.{each}
+use Rattle.ch_model.specs.Stages.{is_pending}
+use Rattle.ch_model.specs.Same.{same_socket}
 use Rattle.ch_model.specs.Declarations.{nodes, names}
 use Rattle.ch_model.specs.Sockets.{stands_at, unread, has_ended_input}
 use Rattle.ch_model.specs.Links.{up_sockets}

@@ -1,15 +1,11 @@
 -- Sharper clauses: what the promises leave open, and the model doesn't.
-use Rattle.std.specs.Prelude.{ℕ, Bool, true, false, not, ◌&&◌, ◌||◌, List, [], ◌∷◌, ◌++◌, count_by, length, take, Option, Some, None, IsTrue, ◌==◌, nat_lt, cond, if◌then◌else◌}
+use Rattle.std.specs.Prelude.{ℕ, Bool, true, false, not, ◌&&◌, ◌||◌, List, ◌++◌, count_by, length, take, Some, None, IsTrue, ◌==◌, nat_lt}
 use Rattle.std.specs.List.{list_any, list_all}
 use Rattle.std.specs.Str.{bytes_eq}
 use Rattle.ch_base.specs.declared.address.Address.{Address}
-use Rattle.ch_base.specs.Addresses.{address_text}
 use Rattle.ch_wire.specs.Words.{word_value}
 use Rattle.ch_model.specs.declared.name.ProcName.{ProcName}
-use Rattle.ch_model.specs.declared.name.RefName.{RefName}
-use Rattle.ch_model.specs.declared.name.SockName.{SockName}
-use Rattle.ch_model.specs.declared.name.End.{End}
-use Rattle.ch_model.specs.declared.name.End.TheVariants.{O, T}
+use Rattle.ch_model.specs.declared.name.End.TheVariants.{O}
 use Rattle.ch_model.specs.declared.entry.Entry.{Entry}
 use Rattle.ch_model.specs.declared.entry.Entry.TheVariants as entries
 use Rattle.ch_model.specs.declared.entry.Verdict.TheVariants as verdicts
@@ -17,18 +13,17 @@ use Rattle.ch_model.specs.declared.line.Line.{Line}
 use Rattle.ch_model.specs.declared.line.What.{What}
 use Rattle.ch_model.specs.declared.line.What.TheVariants as lines
 use Rattle.ch_model.specs.Same.{node_of, process_of, owner, across}
-use Rattle.ch_model.specs.Logs.{each, each_between, until, some_and, none_or, next_is, last_is}
+use Rattle.ch_model.specs.Logs.{each, each_between, until, some_and, next_is, last_is}
 use Rattle.ch_model.specs.Declarations.{address_of, is_stranger, has_label}
 use Rattle.ch_model.specs.Marks.{is_mark, current_line, in_settle}
 use Rattle.ch_model.specs.Epochs.{breaks}
-use Rattle.ch_model.specs.Life.{is_over, ends}
+use Rattle.ch_model.specs.Life.{is_over}
 use Rattle.ch_model.specs.LifeRules.{unlabelled}
-use Rattle.ch_model.specs.Names.{is_of_name}
 use Rattle.ch_model.specs.Watches.{ends_with}
-use Rattle.ch_model.specs.References.{answers_spawn, answers_name}
+use Rattle.ch_model.specs.References.{answers_spawn}
 use Rattle.ch_model.specs.Delivery.{gets_it}
 use Rattle.ch_model.specs.Sockets.{writings}
-use Rattle.ch_model.specs.Links.{has_risen, goes_down, is_closed}
+use Rattle.ch_model.specs.Links.{has_risen, is_closed}
 use Rattle.ch_model.specs.Answers.{answer_to}
 use Rattle.ch_model.specs.HasAnswers.{same_answer, is_own_of_last}
 

@@ -1,5 +1,5 @@
 -- How each end of a socket stands, the bytes that were written towards it, fed to it, and are unread.
-use Rattle.std.specs.Prelude.{ℕ, Bool, true, false, not, ◌&&◌, ◌||◌, List, [], ◌∷◌, ◌++◌, length, drop, sum_by, filter_map, Option, Some, None, ◌-◌, nat_le, ◌==◌, cond, if◌then◌else◌}
+use Rattle.std.specs.Prelude.{ℕ, Bool, false, not, ◌&&◌, ◌||◌, List, [], ◌∷◌, length, drop, sum_by, filter_map, Option, Some, None, ◌-◌, nat_le, cond, if◌then◌else◌}
 use Rattle.std.specs.List.{list_any, flat_map}
 use Rattle.ch_model.specs.declared.name.SockName.{SockName}
 use Rattle.ch_model.specs.declared.name.End.{End}
@@ -7,7 +7,7 @@ use Rattle.ch_model.specs.declared.name.End.TheVariants.{O, T}
 use Rattle.ch_model.specs.declared.entry.Entry.{Entry}
 use Rattle.ch_model.specs.declared.entry.Entry.TheVariants as entries
 use Rattle.ch_model.specs.declared.line.Line.{Line}
-use Rattle.ch_model.specs.Stages.{Stage, Pending, Open, Ended, is_pending, is_open, is_ended}
+use Rattle.ch_model.specs.Stages.{Stage, Pending, Open, Ended, is_ended}
 use Rattle.ch_model.specs.Same.{same_socket, same_end, across}
 use Rattle.ch_model.specs.Logs.{some_and}
 use Rattle.ch_model.specs.Declarations.{has_host}

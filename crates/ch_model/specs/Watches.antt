@@ -2,7 +2,6 @@
 use Rattle.std.specs.Prelude.{ℕ, Bool, true, false, not, ◌&&◌, ◌||◌, List, [], ◌∷◌, Option, Some, None, IsTrue, cond, filter_map}
 use Rattle.std.specs.List.{list_any}
 use Rattle.std.specs.Str.{bytes_eq}
-use Rattle.ch_base.specs.declared.event.Why.{Why}
 use Rattle.ch_ident.specs.declared.reason.Reason.{Reason}
 use Rattle.ch_ident.specs.declared.reason.Reason.TheVariants as reasons
 use Rattle.ch_watch.specs.declared.waiting.Kind.{Kind}

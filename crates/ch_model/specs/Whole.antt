@@ -1,5 +1,5 @@
 -- Whole delivery: at each settled, all that was said in an epoch without trouble was got.
-use Rattle.std.specs.Prelude.{ℕ, Bool, true, false, not, ◌&&◌, ◌||◌, List, Option, Some, None, IsTrue}
+use Rattle.std.specs.Prelude.{ℕ, Bool, true, not, ◌&&◌, ◌||◌, List, IsTrue}
 use Rattle.std.specs.List.{list_any, list_all}
 use Rattle.ch_model.specs.declared.name.ProcName.{ProcName}
 use Rattle.ch_model.specs.declared.name.TargetName.{TargetName}
@@ -9,8 +9,7 @@ use Rattle.ch_model.specs.declared.line.Line.{Line}
 use Rattle.ch_model.specs.Same.{node_of, process_of}
 use Rattle.ch_model.specs.Logs.{each, until, none_or}
 use Rattle.ch_model.specs.Epochs.{says_in}
-use Rattle.ch_model.specs.Life.{is_shut, is_over}
-use Rattle.ch_model.specs.Declarations.{is_node}
+use Rattle.ch_model.specs.Life.{is_over}
 use Rattle.ch_model.specs.Delivery.{gets_it, is_there}
 use Rattle.ch_model.specs.Breaks.{is_untroubled_from, is_away}
 

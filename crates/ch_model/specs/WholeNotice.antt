@@ -1,5 +1,5 @@
 -- Whole notice: at each settled, what should be told was told, what was asked was answered, and who should be doomed isn't live.
-use Rattle.std.specs.Prelude.{ℕ, Bool, true, false, not, ◌&&◌, ◌||◌, List, [], ◌∷◌, ◌++◌, count_by, Option, Some, None, IsTrue, ◌==◌}
+use Rattle.std.specs.Prelude.{ℕ, Bool, true, false, not, ◌&&◌, ◌||◌, List, count_by, IsTrue, ◌==◌}
 use Rattle.std.specs.List.{list_any, list_all}
 use Rattle.ch_model.specs.declared.name.ProcName.{ProcName}
 use Rattle.ch_model.specs.declared.name.RefName.{RefName}
@@ -9,7 +9,7 @@ use Rattle.ch_model.specs.declared.line.Line.{Line}
 use Rattle.ch_model.specs.declared.line.What.{What}
 use Rattle.ch_model.specs.declared.line.What.TheVariants as lines
 use Rattle.ch_model.specs.Same.{same_reference}
-use Rattle.ch_model.specs.Logs.{each, until, some_and, none_or}
+use Rattle.ch_model.specs.Logs.{each, until, none_or}
 use Rattle.ch_model.specs.Marks.{done_by}
 use Rattle.ch_model.specs.Life.{ends, is_made, is_over, is_live}
 use Rattle.ch_model.specs.Watches.{opens, unwatches, tells}

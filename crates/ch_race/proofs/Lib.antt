@@ -9,6 +9,7 @@ pub mod Facts
 pub mod Still
 pub mod QuietMoves
 pub mod Measures
+pub mod Waits
 pub mod Opens
 pub mod Runs
 pub mod Rise

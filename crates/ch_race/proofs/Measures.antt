@@ -185,10 +185,18 @@ module _ (n : ℕ) (p : Pair) (nm : Naming p) (bound : (x : Side) (j : ℕ) → 
   read_t_lower TUp (EndClosed ∷ w) i hi h g r = fail_lower (other (p.sock i).opener) (named_peer i h)
   read_t_lower e w i hi h g r = absurd r
 
+  -- a dial that was crossed pays for the timer of the link that awaits
+  pub crossed_lower : (w : List Item) (i : ℕ) → i < n → OAsking ≡ (p.sock i).o → Crossed ∷ w ≡ (p.sock i).in_o → total n (put i (end_o (p.sock i)) p).sock + 2 ≤ total n p.sock
+  crossed_lower w i hi h g =
+      let a : load (p.sock i).in_o ≡ 1 + load w = ap load (sym g) in
+      let b : weigh_o (p.sock i).o ≡ 1 = ap weigh_o (sym h) in
+      let c = total_put n i (end_o (p.sock i)) p hi in
+      omega arith
+
   read_o_lower : (e : OEnd) (w : List Item) (i : ℕ) → i < n → e ≡ (p.sock i).o → w ≡ (p.sock i).in_o → Reads_o e w → total n (read_o e w i (p.sock i) p).sock < total n p.sock
   read_o_lower OAsking (Accepted ∷ w) i hi h g r = let a : load (p.sock i).in_o ≡ 1 + load w = ap load (sym g) in
       let b : weigh_o (p.sock i).o ≡ 1 = ap weigh_o (sym h) in lower n i (record (p.sock i) { o = OUp; in_o = w }) p hi (omega arith)
-  read_o_lower OAsking (Crossed ∷ w) i hi h g r = lower n i (end_o (p.sock i)) p hi (end_o_less (p.sock i).o (weigh_t (p.sock i).t) (load (p.sock i).in_o) (load (p.sock i).in_t) (ap o_ended (sym h)))
+  read_o_lower OAsking (Crossed ∷ w) i hi h g r = let a = crossed_lower w i hi h g in omega arith
   read_o_lower OAsking (Invalid ∷ w) i hi h g r = fail_lower (p.sock i).opener (named_own i Asks (ap role_o (sym h)) (λ f. clash f)) where
     clash : Asks ≡ Not → ⊥
     clash f = cc

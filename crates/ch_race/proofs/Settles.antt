@@ -1,4 +1,4 @@
--- Settling ends: a pair that isn't still has a visit, each visit lowers the weight, and then the timers lead to rest.
+-- Settling ends: a pair that isn't still has a visit, each move of settling lowers the weight, and then the timers lead to rest.
 use Rattle.std.proofs.Common.{◌≡◌, ◌⊎◌, inl, inr, ◌<◌, ◌≤◌, ℕ, zero, suc, ◌+◌, nat_eq, nat_lt, Bool, true, false, List, [], ◌∷◌, ◌++◌, length, refl, ap, sym, ◌∙◌, subst, arith}
 use Rattle.std.proofs.lemmas.Bool.Decides.{nat_tests}
 use Rattle.ch_link.specs.declared.LinkState.{LinkState}
@@ -8,27 +8,75 @@ use Rattle.ch_link.specs.declared.LinkIn.TheVariants as inputs
 use Rattle.ch_race.specs.Pair.{Side, Lesser, Greater, is_greater, OEnd, OPending, OAsking, OUp, OEnded, TEnd, TPending, TOpen, TUp, TEnded, Item, Sock, Pair, point}
 use Rattle.ch_race.specs.Moves.{Move, obeys, Join, Come, Read_o, Read_t, End_o, End_t, Timer, after, Allowed, run, AllAllowed, IsTimed, IsOpen_o, IsOpen_t, IsStill, AllStill, AtRest}
 use Rattle.ch_race.specs.Rest.{Quiescent}
-use Rattle.ch_race.specs.Measure.{total}
-use Rattle.ch_race.specs.Settle.{Beyond, Visits, AllVisits, timer_of, timers}
+use Rattle.ch_race.specs.Measure.{weigh_link, waiting, whole}
+use Rattle.ch_race.specs.Settle.{Beyond, IsWithin, AllWithin, Visits, AllVisits, Settles, AllSettle, timer_of, timers, SettlesBy}
 use Rattle.ch_race.specs.Invariant.{Invariant}
 use Rattle.ch_race.proofs.Frame.{by_test}
 use Rattle.ch_race.proofs.Opens.{opens, late_row}
 use Rattle.ch_race.proofs.QuietMoves.{when_still}
-use Rattle.ch_race.proofs.Measures.{visit_lowers, unread_expected_o, unread_expected_t}
-use Rattle.ch_race.proofs.Runs.{invariant_after, invariant_run}
-use Rattle.ch_race.proofs.Within.{bounded, beyond_after, visit_within}
+use Rattle.ch_race.proofs.Measures.{unread_expected_o, unread_expected_t}
+use Rattle.ch_race.proofs.Waits.{waits_less, visit_lowers_whole}
+use Rattle.ch_race.proofs.Runs.{invariant_after, invariant_run, run_append, allowed_append}
+use Rattle.ch_race.proofs.Within.{bounded, beyond_after, beyond_run, visit_within}
 
-pub lowers : (n : ℕ) (m : Move) (p : Pair) → Invariant p → Beyond n p → Allowed m p → Visits n m p → total n (after m p).sock < total n p.sock
-lowers n m p v b is visit = subst (λ (q : Pair). total n q.sock < total n p.sock) (sym (opens m p is v.named)) (visit_lowers n p v.named (bounded n p v.named b) m is visit)
+fires : (x : Side) (p : Pair) → p.link x ≡ AwaitOther → after (Timer x) p ≡ point x Idle p
+fires x p e = ap (λ (k : LinkState). obeys x k 0 (step_of k inputs.Late (is_greater x)) p) e ∙ late_row x AwaitOther p refl
 
--- visits in any order: no more than the weight
-pub any_order : (n : ℕ) (ms : List Move) (p : Pair) → Invariant p → Beyond n p → AllAllowed ms p → AllVisits n ms p → length ms + total n (run ms p).sock ≤ total n p.sock
-any_order n [] p v b are visits = omega arith
-any_order n (m ∷ ms) p v b (is, are) (visit, visits) =
-    let less : total n (after m p).sock < total n p.sock = lowers n m p v b is visit in
-    let rest : length ms + total n (run ms (after m p)).sock ≤ total n (after m p).sock =
-    any_order n ms (after m p) (invariant_after m p is v) (beyond_after n m p is (visit_within n m p visit) v.named b) are visits in
+not_true : false ≡ true → ⊥
+not_true e = cc
+
+awaits : (k : LinkState) → IsTimed k → ((d : ℕ) → k ≡ Dialing d → ⊥) → ((u : ℕ) → k ≡ Up u true → ⊥) → k ≡ AwaitOther
+awaits Idle h dials up = absurd (not_true h)
+awaits AwaitOther h dials up = refl
+awaits (Dialing d) h dials up = absurd (dials d refl)
+awaits (Up u true) h dials up = absurd (up u refl)
+awaits (Up u false) h dials up = absurd (not_true h)
+
+visit_lowers : (n : ℕ) (m : Move) (p : Pair) → Invariant p → Beyond n p → Allowed m p → Visits n m p → whole n (after m p) < whole n p
+visit_lowers n m p v b is visit = subst (λ (q : Pair). whole n q < whole n p) (sym (opens m p is v.named)) (visit_lowers_whole n p v.named (bounded n p v.named b) m is visit)
+
+-- where all is still only a node that awaits has a timer
+timer_lowers : (n : ℕ) (x : Side) (p : Pair) → Invariant p → IsTimed (p.link x) → AllStill p → whole n (after (Timer x) p) < whole n p
+timer_lowers n x p v timed still =
+    let quiet : Quiescent p = when_still p v still in
+    let e : p.link x ≡ AwaitOther = awaits (p.link x) timed (quiet.no_dial x) (quiet.no_probe x) in
+    let less : waiting (point x Idle p) < waiting p = waits_less x p e in
+    let here : whole n (point x Idle p) < whole n p = omega arith in
+    subst (λ (q : Pair). whole n q < whole n p) (sym (fires x p e)) here
+
+pub lowers : (n : ℕ) (m : Move) (p : Pair) → Invariant p → Beyond n p → Allowed m p → Settles n m p → whole n (after m p) < whole n p
+lowers n (Timer x) p v b is s = timer_lowers n x p v is.0 is.1
+lowers n m p v b is s = visit_lowers n m p v b is s
+
+settle_within : (n : ℕ) (m : Move) (p : Pair) → Settles n m p → IsWithin n m
+settle_within n (Timer x) p s = tt
+settle_within n m p s = visit_within n m p s
+
+-- moves of settling in any order: no more than the weight
+pub any_order : (n : ℕ) (ms : List Move) (p : Pair) → Invariant p → Beyond n p → AllAllowed ms p → AllSettle n ms p → length ms + whole n (run ms p) ≤ whole n p
+any_order n [] p v b are settle = omega arith
+any_order n (m ∷ ms) p v b (is, are) (s, settle) =
+    let less : whole n (after m p) < whole n p = lowers n m p v b is s in
+    let rest : length ms + whole n (run ms (after m p)) ≤ whole n (after m p) =
+    any_order n ms (after m p) (invariant_after m p is v) (beyond_after n m p is (settle_within n m p s) v.named b) are settle in
     omega arith
+
+-- a visit is a move of settling
+visit_settles : (n : ℕ) (m : Move) (p : Pair) → Visits n m p → Settles n m p
+visit_settles n (Timer x) p visit = absurd visit
+visit_settles n m p visit = visit
+
+visits_settle : (n : ℕ) (ms : List Move) (p : Pair) → AllVisits n ms p → AllSettle n ms p
+visits_settle n [] p visits = tt
+visits_settle n (m ∷ ms) p (visit, visits) = (visit_settles n m p visit, visits_settle n ms (after m p) visits)
+
+visits_within : (n : ℕ) (ms : List Move) (p : Pair) → AllVisits n ms p → AllWithin n ms
+visits_within n [] p visits = tt
+visits_within n (m ∷ ms) p (visit, visits) = (visit_within n m p visit, visits_within n ms (after m p) visits)
+
+visits_append : (n : ℕ) (ms ns : List Move) (p : Pair) → AllVisits n ms p → AllVisits n ns (run ms p) → AllVisits n (ms ++ ns) p
+visits_append n [] ns p visits more = more
+visits_append n (m ∷ ms) ns p (visit, visits) more = (visit, visits_append n ms ns (after m p) visits more)
 
 -- what an end has to do
 data Task (is_open : Type 0) (w : List Item) (cut : Bool) (gone : Type 0) : Type 0 where
@@ -163,26 +211,23 @@ module _ (n : ℕ) (p : Pair) (v : Invariant p) where
 abbrev pub Quiets : ℕ → Pair → Type 0
 Quiets n p = (ms : List Move) × AllAllowed ms p × AllVisits n ms p × AllStill (run ms p)
 
-visits_by : (fuel n : ℕ) (p : Pair) → Invariant p → Beyond n p → total n p.sock ≤ fuel → AllStill p ⊎ Visit n p → Quiets n p
+visits_by : (fuel n : ℕ) (p : Pair) → Invariant p → Beyond n p → whole n p ≤ fuel → AllStill p ⊎ Visit n p → Quiets n p
 visits_by fuel n p v b h (inl still) = ([], tt, tt, still)
-visits_by zero n p v b h (inr (m, is, visit)) = let less : total n (after m p).sock < total n p.sock = lowers n m p v b is visit in absurd (omega arith)
+visits_by zero n p v b h (inr (m, is, visit)) = let less : whole n (after m p) < whole n p = visit_lowers n m p v b is visit in absurd (omega arith)
 visits_by (suc fuel) n p v b h (inr (m, is, visit)) =
     let q : Pair = after m p in
     let vq : Invariant q = invariant_after m p is v in
     let bq : Beyond n q = beyond_after n m p is (visit_within n m p visit) v.named b in
-    let less : total n q.sock < total n p.sock = lowers n m p v b is visit in
+    let less : whole n q < whole n p = visit_lowers n m p v b is visit in
     let rest : Quiets n q = visits_by fuel n q vq bq (omega arith) (goes_on n q vq bq) in
     (m ∷ rest.0, (is, rest.1), (visit, rest.2), rest.3)
 
-pub visits : (n : ℕ) (p : Pair) → Invariant p → Beyond n p → Quiets n p
-visits n p v b = visits_by (total n p.sock) n p v b (omega arith) (goes_on n p v b)
+to_still : (n : ℕ) (p : Pair) → Invariant p → Beyond n p → Quiets n p
+to_still n p v b = visits_by (whole n p) n p v b (omega arith) (goes_on n p v b)
 
 -- the round of timers
 abbrev Rounds : List Move → Pair → Type 0
 Rounds ms p = AllAllowed ms p × AtRest (run ms p)
-
-fires : (x : Side) (p : Pair) → p.link x ≡ AwaitOther → after (Timer x) p ≡ point x Idle p
-fires x p e = ap (λ (k : LinkState). obeys x k 0 (step_of k inputs.Late (is_greater x)) p) e ∙ late_row x AwaitOther p refl
 
 one : (x : Side) (p : Pair) (ms : List Move) → p.link x ≡ AwaitOther → AllStill p → Rounds ms (point x Idle p) → Rounds (Timer x ∷ ms) p
 one x p ms e still r =
@@ -191,9 +236,6 @@ one x p ms e still r =
 
 done : (p : Pair) → AllStill p → (IsTimed (p.link Lesser) → ⊥) → (IsTimed (p.link Greater) → ⊥) → Rounds [] p
 done p still l g = (tt, record { still = still; lesser = l; greater = g })
-
-not_true : false ≡ true → ⊥
-not_true e = cc
 
 idle_off : (k : LinkState) → k ≡ Idle → IsTimed k → ⊥
 idle_off k e h = not_true (subst IsTimed e h)
@@ -218,9 +260,45 @@ first p AwaitOther b e f still quiet = one Lesser p (timer_of Greater b) e still
 pub rests : (p : Pair) → Invariant p → AllStill p → AllAllowed (timers p) p × AtRest (run (timers p) p)
 rests p v still = first p (p.link Lesser) (p.link Greater) refl refl still (when_still p v still)
 
-pub settles : (n : ℕ) (p : Pair) → Invariant p → Beyond n p → (ms : List Move) × AllAllowed ms p × AllVisits n ms p × (length ms ≤ total n p.sock) × AllAllowed (timers (run ms p)) (run ms p) × AtRest (run (timers (run ms p)) (run ms p))
-settles n p v b =
-    let found : Quiets n p = visits n p v b in
-    let at_most : length found.0 + total n (run found.0 p).sock ≤ total n p.sock = any_order n found.0 p v b found.1 found.2 in
-    let last = rests (run found.0 p) (invariant_run found.0 p found.1 v) found.3 in
-    (found.0, found.1, found.2, omega arith, last.0, last.1)
+timers_of : (x : Side) (k : LinkState) → length (timer_of x k) ≤ weigh_link k
+timers_of x Idle = omega arith
+timers_of x AwaitOther = omega arith
+timers_of x (Dialing d) = omega arith
+timers_of x (Up u b) = omega arith
+
+lengths : (ms ns : List Move) → length (ms ++ ns) ≡ length ms + length ns
+lengths [] ns = omega arith
+lengths (m ∷ ms) ns = let e : length (ms ++ ns) ≡ length ms + length ns = lengths ms ns in omega arith
+
+-- one timer for each link that awaits
+timers_most : (p : Pair) → length (timers p) ≤ waiting p
+timers_most p =
+    let a : length (timer_of Lesser (p.link Lesser)) ≤ weigh_link (p.link Lesser) = timers_of Lesser (p.link Lesser) in
+    let b : length (timer_of Greater (p.link Greater)) ≤ weigh_link (p.link Greater) = timers_of Greater (p.link Greater) in
+    let e = lengths (timer_of Lesser (p.link Lesser)) (timer_of Greater (p.link Greater)) in
+    omega arith
+
+-- visits that leave all still are completed by the timers
+pub completed : (n : ℕ) (p : Pair) → Invariant p → Beyond n p → (ms : List Move) → AllAllowed ms p → AllVisits n ms p → AllStill (run ms p) → SettlesBy n ms p
+completed n p v b ms are visits still =
+    let q : Pair = run ms p in
+    let round : AllAllowed (timers q) q × AtRest (run (timers q) q) = rests q (invariant_run ms p are v) still in
+    let at_most : length ms + whole n q ≤ whole n p = any_order n ms p v b are (visits_settle n ms p visits) in
+    let last : length (timers q) ≤ waiting q = timers_most q in
+    let all : length (ms ++ timers q) ≡ length ms + length (timers q) = lengths ms (timers q) in
+    record {
+      visited = visits;
+      allowed = allowed_append ms (timers q) p are round.0;
+      at_most = omega arith;
+      rest = subst AtRest (sym (run_append ms (timers q) p)) round.1;
+    }
+
+-- whatever visits were done, more complete them
+pub settles : (n : ℕ) (p : Pair) → Invariant p → Beyond n p → (ms : List Move) → AllAllowed ms p → AllVisits n ms p → (more : List Move) × SettlesBy n (ms ++ more) p
+settles n p v b ms are visits =
+    let q : Pair = run ms p in
+    let found : Quiets n q = to_still n q (invariant_run ms p are v) (beyond_run n ms p are (visits_within n ms p visits) v b) in (
+      found.0,
+      completed n p v b (ms ++ found.0) (allowed_append ms found.0 p are found.1) (visits_append n ms found.0 p visits found.2)
+          (subst AllStill (sym (run_append ms found.0 p)) found.3),
+    )

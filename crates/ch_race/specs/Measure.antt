@@ -1,6 +1,8 @@
--- How much is still to be done, as a number that each visit of a settle lowers.
+-- How much is still to be done, as a number that each move of a settle lowers.
 use Rattle.std.specs.Prelude.{ℕ, zero, suc, ◌+◌, List, [], ◌∷◌}
-use Rattle.ch_race.specs.Pair.{OEnd, OPending, OAsking, OUp, OEnded, TEnd, TPending, TOpen, TUp, TEnded, Item, Request, Accepted, Crossed, Invalid, EndClosed, Probe, Ack, Data, Sock}
+use Rattle.ch_link.specs.declared.LinkState.{LinkState}
+use Rattle.ch_link.specs.declared.LinkState.TheVariants.{AwaitOther}
+use Rattle.ch_race.specs.Pair.{Lesser, Greater, OEnd, OPending, OAsking, OUp, OEnded, TEnd, TPending, TOpen, TUp, TEnded, Item, Request, Accepted, Crossed, Invalid, EndClosed, Probe, Ack, Data, Sock, Pair}
 
 -- an item weighs more than all that is written when it is read
 abbrev pub weigh : Item → ℕ
@@ -39,6 +41,19 @@ sum_of f (suc n) socks = sum_of f n socks + f (socks n)
 -- the weight of the first n sockets
 abbrev pub total : ℕ → (ℕ → Sock) → ℕ
 total n socks = sum_of weight n socks
+
+-- a link: where no visit is left, only one that awaits the other has a timer to run out
+abbrev pub weigh_link : LinkState → ℕ
+weigh_link AwaitOther = 1
+weigh_link k = 0
+
+-- the weight of both links
+abbrev pub waiting : Pair → ℕ
+waiting p = weigh_link (p.link Lesser) + weigh_link (p.link Greater)
+
+-- the weight of a pair: that of its first n sockets, and of both links
+abbrev pub whole : ℕ → Pair → ℕ
+whole n p = total n p.sock + waiting p
 
 -- the opener's end has an item that it expects
 abbrev pub Reads_o : OEnd → List Item → Type 0

@@ -5,7 +5,7 @@ use Rattle.ch_link.specs.declared.LinkState.TheVariants.{Dialing, Up}
 use Rattle.ch_link.specs.declared.LinkIn.TheVariants as inputs
 use Rattle.ch_link.specs.declared.LinkAct.TheVariants.{Accept, Cross, LeaveAndAccept}
 use Rattle.ch_race.specs.Pair.{Lesser, Greater}
-use Rattle.ch_race.specs.Moves.{Move, Want, Join, Come, Read_o, Read_t, Table}
+use Rattle.ch_race.specs.Moves.{Move, Want, Join, Come, Read_o, Read_t, End_t, Refuse, Table}
 
 -- both dial, the lesser node on socket 0, the greater on socket 1, and both requests come. The lesser node reads first,
 -- and leaves its own dial; the greater is up, reads the stale request, crosses it and probes
@@ -35,6 +35,10 @@ stale_read = Want Lesser 0 ∷ Want Greater 1 ∷ Join 0 ∷ Join 1 ∷ Come 0 �
 -- the lesser node reads the greater's request while it dials
 abbrev pub lesser_asked : List Move
 lesser_asked = Want Lesser 0 ∷ Want Greater 1 ∷ Join 0 ∷ Join 1 ∷ Come 1 ∷ Read_t 1 ∷ []
+
+-- the lesser node is crossed and awaits the greater, whose own dial fails then: no socket is left
+abbrev pub awaits_in_vain : List Move
+awaits_in_vain = Want Lesser 0 ∷ Want Greater 1 ∷ Join 0 ∷ Come 0 ∷ Read_t 0 ∷ Read_o 0 ∷ Refuse 1 ∷ Come 1 ∷ End_t 1 ∷ []
 
 -- wrong: each of two nodes whose requests cross takes the other's
 abbrev pub both_accept : Table

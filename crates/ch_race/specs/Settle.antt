@@ -1,11 +1,11 @@
 -- Settling: visits of the sockets until nothing is to be done there, and then one round of timers.
-use Rattle.std.specs.Prelude.{◌≡◌, ◌<◌, ◌≤◌, ℕ, true, List, [], ◌∷◌, ◌++◌}
+use Rattle.std.specs.Prelude.{◌≡◌, ◌<◌, ◌≤◌, ℕ, true, List, [], ◌∷◌, ◌++◌, length}
 use Rattle.ch_link.specs.Sockets.{names}
 use Rattle.ch_link.specs.declared.LinkState.{LinkState}
 use Rattle.ch_link.specs.declared.LinkState.TheVariants.{AwaitOther}
 use Rattle.ch_race.specs.Pair.{Side, Lesser, Greater, OEnded, TEnded, Pair}
-use Rattle.ch_race.specs.Moves.{Move, Want, Join, Come, Read_o, Read_t, End_o, End_t, Refuse, Lose_o, Lose_t, Cut_o, Cut_t, Timer, after}
-use Rattle.ch_race.specs.Measure.{Reads_o, Reads_t}
+use Rattle.ch_race.specs.Moves.{Move, Want, Join, Come, Read_o, Read_t, End_o, End_t, Refuse, Lose_o, Lose_t, Cut_o, Cut_t, Timer, after, run, AllAllowed, AtRest}
+use Rattle.ch_race.specs.Measure.{whole, Reads_o, Reads_t}
 
 -- the links name only the first n sockets
 abbrev pub Bounded : ℕ → Pair → Type 0
@@ -51,6 +51,16 @@ abbrev pub AllVisits : ℕ → List Move → Pair → Type 0
 AllVisits n [] p = Unit {0}
 AllVisits n (m ∷ ms) p = Visits n m p × AllVisits n ms (after m p)
 
+-- a move of settling: a visit, or a timer, which may run out where all is still
+abbrev pub Settles : ℕ → Move → Pair → Type 0
+Settles n (Timer x) p = Unit {0}
+Settles n m p = Visits n m p
+
+-- each of the moves is one of settling
+abbrev pub AllSettle : ℕ → List Move → Pair → Type 0
+AllSettle n [] p = Unit {0}
+AllSettle n (m ∷ ms) p = Settles n m p × AllSettle n ms (after m p)
+
 -- the timer of a node that awaits the other runs out
 abbrev pub timer_of : Side → LinkState → List Move
 timer_of x AwaitOther = Timer x ∷ []
@@ -59,3 +69,14 @@ timer_of x k = []
 -- the round of timers
 abbrev pub timers : Pair → List Move
 timers p = timer_of Lesser (p.link Lesser) ++ timer_of Greater (p.link Greater)
+
+-- the visits in their order, and then one round of timers
+abbrev pub and_timers : List Move → Pair → List Move
+and_timers visits p = visits ++ timers (run visits p)
+
+-- these visits and then one round of timers lead to rest, in no more moves than the weight
+pub record SettlesBy (n : ℕ) (visits : List Move) (p : Pair) : Type 0 where
+  pub visited : AllVisits n visits p
+  pub allowed : AllAllowed (and_timers visits p) p
+  pub at_most : length (and_timers visits p) ≤ whole n p
+  pub rest : AtRest (run (and_timers visits p) p)

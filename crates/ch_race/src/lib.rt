@@ -4,19 +4,19 @@
 //! `ch_link`, below. Above stand the laws of a whole world, whose steps are moves of this machine.
 #![tactic(auto)]
 
-ghost use Rattle.std.specs.Prelude.{◌≡◌, ◌<◌, ◌≤◌, ◌⊎◌, ℕ, ◌+◌, List, [], length, true, false};
+ghost use Rattle.std.specs.Prelude.{◌≡◌, ◌<◌, ◌≤◌, ◌⊎◌, ℕ, ◌+◌, List, [], ◌∷◌, ◌++◌, length, true, false};
 ghost use Rattle.ch_race.specs.Pair.{Side, Lesser, Greater, Pair, OAsking, two_nodes};
-ghost use Rattle.ch_race.specs.Moves.{Move, Allowed, after, run, run_by, AllAllowed, AllAllowedBy, AllStill, AtRest};
+ghost use Rattle.ch_race.specs.Moves.{Move, Timer, Allowed, after, run, run_by, AllAllowed, AllAllowedBy, AllStill, AtRest};
 ghost use Rattle.ch_race.specs.Naming.{Naming, OneLive, Bundle, ComesUpFree};
 ghost use Rattle.ch_race.specs.Words.{Worded};
 ghost use Rattle.ch_race.specs.Probes.{Probing};
 ghost use Rattle.ch_race.specs.Quiet.{Quieted, NoBreak, NoFailure, Licensed};
 ghost use Rattle.ch_race.specs.Rest.{WhenStill};
-ghost use Rattle.ch_race.specs.Measure.{total};
-ghost use Rattle.ch_race.specs.Settle.{Visits, AllVisits, AllWithin, timers};
+ghost use Rattle.ch_race.specs.Measure.{total, whole};
+ghost use Rattle.ch_race.specs.Settle.{Visits, AllVisits, Settles, AllSettle, SettlesBy, AllWithin, timers};
 ghost use Rattle.ch_race.specs.Payloads.{payloads, unread, all_said, all_got, StaysQuiet};
 ghost use Rattle.ch_race.specs.Invariant.{IsReached, IsReachedWithin};
-ghost use Rattle.ch_race.specs.Rows.{lesser_reads_first, greater_crosses, greater_reads_first, both_read, both_answered, stale_read, lesser_asked, both_accept, both_cross, never_probes, never_leaves};
+ghost use Rattle.ch_race.specs.Rows.{lesser_reads_first, greater_crosses, greater_reads_first, awaits_in_vain, both_read, both_answered, stale_read, lesser_asked, both_accept, both_cross, never_probes, never_leaves};
 ghost use Rattle.ch_link.specs.declared.LinkState.TheVariants.{AwaitOther, Up};
 
 /// Ends and links name the same sockets, whatever is lost or late. So at most one socket is live, and beside a live
@@ -52,17 +52,21 @@ pub fn at_rest()
     ensures { (p : Pair) → IsReached p → WhenStill p }
 {}
 
-/// Settling ends. Each visit lowers the weight of what is to be done, so visits in any order are no more than it. Where
-/// not all is still there is a visit to do. Where all is still one round of timers, of nodes that await the other, leads
-/// to rest. So from each pair that is reached at most so many visits as its weight, and then the timers, lead to rest.
+/// Settling ends. The weight is what is to be done at the sockets and the timers that will run out. Each visit and each
+/// timer lowers it, so moves of settling in any order are no more than it. Where not all is still there is a visit to do.
+/// Where all is still one round of timers, of nodes that await the other, leads to rest. So from each pair that is
+/// reached, visits in any order and then one round of timers lead to rest, as a run of at most so many moves as the
+/// weight: whatever visits were done, more complete them, and those that leave all still are complete.
 pub fn settling_ends()
-    ensures lowers { (n : ℕ) (p : Pair) → IsReachedWithin n p → (m : Move) → Allowed m p → Visits n m p → total n (after m p).sock < total n p.sock }
-    ensures any_order { (n : ℕ) (p : Pair) → IsReachedWithin n p → (moves : List Move) → AllAllowed moves p → AllVisits n moves p
-        → length moves + total n (run moves p).sock ≤ total n p.sock }
+    ensures lowers { (n : ℕ) (p : Pair) → IsReachedWithin n p → (m : Move) → Allowed m p → Settles n m p → whole n (after m p) < whole n p }
+    ensures any_order { (n : ℕ) (p : Pair) → IsReachedWithin n p → (moves : List Move) → AllAllowed moves p → AllSettle n moves p
+        → length moves + whole n (run moves p) ≤ whole n p }
     ensures goes_on { (n : ℕ) (p : Pair) → IsReachedWithin n p → AllStill p ⊎ ((m : Move) × Allowed m p × Visits n m p) }
     ensures timers { (p : Pair) → IsReached p → AllStill p → AllAllowed (timers p) p × AtRest (run (timers p) p) }
-    ensures settles { (n : ℕ) (p : Pair) → IsReachedWithin n p → (moves : List Move) × AllAllowed moves p × AllVisits n moves p
-        × (length moves ≤ total n p.sock) × AllAllowed (timers (run moves p)) (run moves p) × AtRest (run (timers (run moves p)) (run moves p)) }
+    ensures completed { (n : ℕ) (p : Pair) → IsReachedWithin n p → (visits : List Move) → AllAllowed visits p → AllVisits n visits p → AllStill (run visits p)
+        → SettlesBy n visits p }
+    ensures settles { (n : ℕ) (p : Pair) → IsReachedWithin n p → (visits : List Move) → AllAllowed visits p → AllVisits n visits p
+        → (more : List Move) × SettlesBy n (visits ++ more) p }
 {}
 
 /// What is said in a quiet pair is read. Over moves that keep it quiet no payload is dropped: those that were unread
@@ -85,6 +89,16 @@ pub fn crossed_requests()
     ensures greater_first_up { ((run greater_reads_first two_nodes).link Lesser ≡ Up 1 false) × ((run greater_reads_first two_nodes).link Greater ≡ Up 1 false) }
     ensures greater_first_quiet { (run greater_reads_first two_nodes).quiet ≡ true }
     ensures awaits { (run greater_crosses two_nodes).link Lesser ≡ AwaitOther }
+{}
+
+/// A node awaits where no socket is left, computed: no visit is to be done, its timer is the one move left, and the
+/// weight counts it.
+#[tactic(auto, unfolding(ch_link::specs::Table::step_of))]
+pub fn awaiting_in_vain()
+    ensures allowed { AllAllowed awaits_in_vain two_nodes }
+    ensures no_socket { total 2 (run awaits_in_vain two_nodes).sock ≡ 0 }
+    ensures one_timer { timers (run awaits_in_vain two_nodes) ≡ Timer Lesser ∷ [] }
+    ensures weight { whole 2 (run awaits_in_vain two_nodes) ≡ 1 }
 {}
 
 /// Were both requests accepted, each node would be up on a socket that the other has left, and a quiet pair would

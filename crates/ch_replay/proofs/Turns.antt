@@ -9,9 +9,11 @@ use Rattle.ch_model.specs.declared.refusal.LineFault.{LineFault}
 use Rattle.ch_model.specs.declared.refusal.LineFault.TheVariants.{Bad, TooLong}
 use Rattle.ch_model.specs.declared.line.Line.{Line}
 use Rattle.ch_model.specs.declared.line.What.{What}
-use Rattle.ch_model.specs.States.{World}
-use Rattle.ch_model.specs.World.{◌>>=◌, world_step}
-use Rattle.ch_model.specs.Lines.{Told, read_line}
+use Rattle.ch_one_node.specs.States.{World}
+use Rattle.ch_one_node.specs.World.{◌>>=◌, world_step}
+use Rattle.ch_model.specs.LinesTold.{Told}
+use Rattle.ch_model.specs.Lines.{read_line}
+use Rattle.ch_model.specs.LinesBuilt.{one_node}
 use Rattle.ch_model.specs.Journal.{raw_lines, size_of, is_too_long}
 use Rattle.ch_model.specs.Spelling.{log_text}
 use Rattle.ch_journal.specs.declared.reading.JournalError.{JournalError}
@@ -23,18 +25,18 @@ use Rattle.ch_replay.specs.Replayed.{Progress, went_on, one_line, after_text, re
 -- what reading a line answers, where none was refused and the number can grow
 pub record WasRead (before now : ReadingState) (text : List ℕ) (line : Option Line) : Type 0 where
   pub what : Option What
-  pub read : read_line before.told text ≡ Ok (what, now.told)
+  pub read : read_line one_node before.told text ≡ Ok (what, now.told)
   pub line_is : line ≡ numbered_line (before.number + 1) what
   pub number : now.number ≡ before.number + 1
   pub fresh : now.refused ≡ None
 
-pub reading_is : (before : ReadingState) (text : List ℕ) → before.refused ≡ None → before.number < 4294967295 → read_on before text ≡ read_as before (before.number + 1) (read_line before.told text)
+pub reading_is : (before : ReadingState) (text : List ℕ) → before.refused ≡ None → before.number < 4294967295 → read_on before text ≡ read_as before (before.number + 1) (read_line one_node before.told text)
 reading_is before text fresh few = let n : (before.number == 4294967295) ≡ false = grind (arith, nat_tests) in rw (fresh, n) refl
 
 pub was_read : (before now : ReadingState) (text : List ℕ) (line : Option Line) → before.refused ≡ None → before.number < 4294967295 → Answers (Ok line) before now (read_on before text) → WasRead before now text line
-was_read before now text line fresh few a = by_read (read_line before.told text) refl (subst (λ s. Answers (Ok line) before now s) (reading_is before text fresh few) a)
+was_read before now text line fresh few a = by_read (read_line one_node before.told text) refl (subst (λ s. Answers (Ok line) before now s) (reading_is before text fresh few) a)
   where
-    by_read : (r : Result (Option What × Told) BadKind) → read_line before.told text ≡ r → Answers (Ok line) before now (read_as before (before.number + 1) r) → WasRead before now text line
+    by_read : (r : Result (Option What × Told) BadKind) → read_line one_node before.told text ≡ r → Answers (Ok line) before now (read_as before (before.number + 1) r) → WasRead before now text line
     by_read (Ok read) e b = record {
       what = read.0;
       read = rw b.1 e;
@@ -44,15 +46,15 @@ was_read before now text line fresh few a = by_read (read_line before.told text)
     }
     by_read (Err kind) e b = cc
 
-pub was_refused : (before now : ReadingState) (text : List ℕ) (line : ℕ) (kind : BadKind) → before.refused ≡ None → before.number < 4294967295 → Answers (Err (reads.BadLine line kind)) before now (read_on before text) → read_line before.told text ≡ Err kind
-was_refused before now text line kind fresh few a = by_read (read_line before.told text) refl (subst (λ s. Answers (Err (reads.BadLine line kind)) before now s) (reading_is before text fresh few) a)
+pub was_refused : (before now : ReadingState) (text : List ℕ) (line : ℕ) (kind : BadKind) → before.refused ≡ None → before.number < 4294967295 → Answers (Err (reads.BadLine line kind)) before now (read_on before text) → read_line one_node before.told text ≡ Err kind
+was_refused before now text line kind fresh few a = by_read (read_line one_node before.told text) refl (subst (λ s. Answers (Err (reads.BadLine line kind)) before now s) (reading_is before text fresh few) a)
   where
-    by_read : (r : Result (Option What × Told) BadKind) → read_line before.told text ≡ r → Answers (Err (reads.BadLine line kind)) before now (read_as before (before.number + 1) r) → read_line before.told text ≡ Err kind
+    by_read : (r : Result (Option What × Told) BadKind) → read_line one_node before.told text ≡ r → Answers (Err (reads.BadLine line kind)) before now (read_as before (before.number + 1) r) → read_line one_node before.told text ≡ Err kind
     by_read (Ok read) e b = cc
     by_read (Err other) e b = let h : other ≡ kind = cc in rw (← h) e
 
 pub not_worn : (before now : ReadingState) (text : List ℕ) → before.refused ≡ None → before.number < 4294967295 → Answers (Err reads.Worn) before now (read_on before text) → ⊥
-not_worn before now text fresh few a = by_read (read_line before.told text) (subst (λ s. Answers (Err reads.Worn) before now s) (reading_is before text fresh few) a)
+not_worn before now text fresh few a = by_read (read_line one_node before.told text) (subst (λ s. Answers (Err reads.Worn) before now s) (reading_is before text fresh few) a)
   where
     by_read : (r : Result (Option What × Told) BadKind) → Answers (Err reads.Worn) before now (read_as before (before.number + 1) r) → ⊥
     by_read (Ok read) b = cc

@@ -2,16 +2,16 @@
 use Rattle.std.proofs.Common.{◌≡◌, ℕ, Bool, true, false, List, [], ◌∷◌, ◌++◌, Option, Some, None, Result, Ok, Err, MatchResult, IfErr, refl, sym, ◌∙◌, ap, subst}
 use Rattle.ch_base.specs.declared.memory.Stop.{Stop}
 use Rattle.ch_base.specs.declared.memory.Stop.TheVariants as stops
-use Rattle.ch_model.specs.declared.note.Note.{Note}
-use Rattle.ch_model.specs.declared.note.Note.TheVariants as notes
+use Rattle.ch_one_node.specs.declared.note.Note.{Note}
+use Rattle.ch_one_node.specs.declared.note.Note.TheVariants as notes
 use Rattle.ch_model.specs.declared.entry.Entry.{Entry}
 use Rattle.ch_model.specs.declared.entry.Entry.TheVariants as entries
 use Rattle.ch_model.specs.declared.entry.Verdict.TheVariants as verdicts
-use Rattle.ch_model.specs.declared.command.CommandError.{CommandError}
-use Rattle.ch_model.specs.declared.command.CommandError.TheVariants as errors
-use Rattle.ch_model.specs.States.{World, NodeState}
-use Rattle.ch_model.specs.Node.{Fails}
-use Rattle.ch_model.specs.World.{entries_from, entries_of, answered}
+use Rattle.ch_one_node.specs.declared.command.CommandError.{CommandError}
+use Rattle.ch_one_node.specs.declared.command.CommandError.TheVariants as errors
+use Rattle.ch_one_node.specs.States.{World, NodeState}
+use Rattle.ch_one_node.specs.Node.{Fails}
+use Rattle.ch_one_node.specs.World.{entries_from, entries_of, answered}
 use Rattle.ch_replay.specs.Entries.{entry_at, place_after, entries_answered}
 use Rattle.ch_replay.specs.Replayed.{Gives, Stops}
 

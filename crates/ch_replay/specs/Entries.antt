@@ -2,25 +2,23 @@
 use Rattle.std.specs.Prelude.{◌≡◌, ℕ, List, [], ◌∷◌, Option, Some, None, Result, Ok, Err}
 use Rattle.ch_base.specs.declared.memory.Stop.{Stop}
 use Rattle.ch_base.specs.declared.memory.Stop.TheVariants as stops
-use Rattle.ch_model.specs.declared.note.Note.{Note}
-use Rattle.ch_model.specs.declared.note.Note.TheVariants as notes
+use Rattle.ch_model.specs.declared.name.TargetName.TheVariants.{Process}
+use Rattle.ch_one_node.specs.declared.note.Note.{Note}
+use Rattle.ch_one_node.specs.declared.note.Note.TheVariants as notes
 use Rattle.ch_model.specs.declared.entry.Entry.{Entry}
 use Rattle.ch_model.specs.declared.entry.Entry.TheVariants as entries
 use Rattle.ch_model.specs.declared.entry.Verdict.TheVariants as verdicts
-use Rattle.ch_model.specs.declared.command.CommandError.{CommandError}
-use Rattle.ch_model.specs.declared.command.CommandError.TheVariants as errors
-use Rattle.ch_model.specs.declared.line.What.{What}
-use Rattle.ch_model.specs.declared.line.What.TheVariants as lines
-use Rattle.ch_model.specs.Node.{new_node}
-use Rattle.ch_model.specs.States.{World}
-use Rattle.ch_model.specs.World.{name_of, entries_of}
+use Rattle.ch_one_node.specs.declared.command.CommandError.{CommandError}
+use Rattle.ch_one_node.specs.declared.command.CommandError.TheVariants as errors
+use Rattle.ch_one_node.specs.States.{World}
+use Rattle.ch_one_node.specs.World.{name_of, entries_of}
 
 -- the entry of one note, after a said of this epoch and index
 abbrev pub entry_at : World → ℕ → ℕ → Note → Entry
-entry_at world epoch index (notes.Made process) = entries.Made (name_of world process)
-entry_at world epoch index (notes.Said by to e k message) = entries.Said (name_of world by) (name_of world to) e k message.mark message.body
-entry_at world epoch index (notes.Got by to receiver) = entries.Got (name_of world by) (name_of world to) epoch index (name_of world receiver)
-entry_at world epoch index (notes.Took by message) = entries.Took (name_of world by) message.mark message.body
+entry_at world epoch index (notes.Made process) = entries.Made (name_of world process) None None
+entry_at world epoch index (notes.Said by to e k message) = entries.Said (name_of world by) (Process (name_of world to)) e k message.mark message.body
+entry_at world epoch index (notes.Got by to receiver) = entries.Got (name_of world by) (Process (name_of world to)) epoch index (Some (name_of world receiver))
+entry_at world epoch index (notes.Took by message) = entries.Took (name_of world by) None message.mark message.body
 entry_at world epoch index (notes.Over process reason) = entries.Over (name_of world process) reason
 
 -- the epoch and the index of the said before, after one note more
@@ -39,11 +37,3 @@ entries_answered view world number (Err errors.Dead) = Ok (entries.Line number v
 entries_answered view world number (Err errors.Empty) = Ok (entries.Line number verdicts.Empty ∷ [])
 entries_answered view world number (Err errors.OutOfMemory) = Err stops.OutOfMemory
 entries_answered view world number (Err errors.Worn) = Err stops.Worn
-
--- the world that a node's declaration makes
-abbrev pub declared_by : What → Option World
-declared_by (lines.Node name address unique) = Some (record { name = name; node = new_node address unique })
-declared_by (lines.Proc node) = None
-declared_by (lines.Send by to mark body) = None
-declared_by (lines.Recv by mark) = None
-declared_by (lines.End by) = None

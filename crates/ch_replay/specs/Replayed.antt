@@ -8,9 +8,11 @@ use Rattle.ch_model.specs.declared.refusal.BadKind.TheVariants.{Form}
 use Rattle.ch_model.specs.declared.refusal.LineFault.{LineFault}
 use Rattle.ch_model.specs.declared.refusal.LineFault.TheVariants.{Bad, TooLong}
 use Rattle.ch_model.specs.declared.line.What.{What}
-use Rattle.ch_model.specs.States.{World}
-use Rattle.ch_model.specs.World.{◌>>=◌, world_step}
-use Rattle.ch_model.specs.Lines.{Told, untold, read_line}
+use Rattle.ch_one_node.specs.States.{World}
+use Rattle.ch_one_node.specs.World.{◌>>=◌, world_step}
+use Rattle.ch_model.specs.LinesTold.{Told, untold}
+use Rattle.ch_model.specs.Lines.{read_line}
+use Rattle.ch_model.specs.LinesBuilt.{one_node}
 use Rattle.ch_model.specs.Journal.{longest_journal, raw_lines, size_of, is_too_long}
 use Rattle.ch_model.specs.Spelling.{log_text}
 use Rattle.ch_journal.specs.ReadingState.{ReadingState}
@@ -33,7 +35,7 @@ went_on progress (Some what) told = do
 
 -- the next line, or the kind of its refusal
 abbrev pub one_line : Progress → List ℕ → Result (Result (List ℕ × Progress) BadKind) Stop
-one_line progress text = elim (read_line progress.told text) [
+one_line progress text = elim (read_line one_node progress.told text) [
   | Err kind ↦ Ok (Err kind)
   | Ok read ↦ (went_on progress read.0 read.1 >>= λ done. Ok (Ok done))
 ]

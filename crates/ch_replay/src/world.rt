@@ -1,18 +1,18 @@
 //! The world of a journal: its node, in the journal's names.
 
 ghost use Rattle.std.specs.Prelude.{◌≡◌, ℕ, ◌++◌, ◌∷◌, [], IfOk, IfErr, MatchResult, Ok, Err, Some, None};
-ghost use Rattle.ch_model.specs.World.{name_of, entries_of, event_of, world_step};
-ghost use Rattle.ch_model.specs.Node.{Fails, new_node, command_of, process_id};
-ghost use Rattle.ch_model.specs.declared.command.Command.TheVariants.{Send};
+ghost use Rattle.ch_one_node.specs.World.{name_of, entries_of, event_of, sent_to, declared_by, world_step};
+ghost use Rattle.ch_one_node.specs.Node.{Fails, new_node, command_of, process_id};
+ghost use Rattle.ch_one_node.specs.declared.command.Command.TheVariants.{Send};
 ghost use Rattle.ch_model.specs.declared.entry.Entry.TheVariants.{Line as EntryLine};
 ghost use Rattle.ch_node.specs.Calls.{KeepsBut};
 ghost use Rattle.ch_replay.specs.Replayed.{Gives, Stops};
-ghost use Rattle.ch_replay.specs.Entries.{entry_at, entries_answered, declared_by, place_after as place_after_of};
+ghost use Rattle.ch_replay.specs.Entries.{entry_at, entries_answered, place_after as place_after_of};
 
 use ch_base::{Address, OutOfMemory, Stop, Text};
 use ch_ident::{Message, ProcessId};
-use ch_model::{Command, CommandError, Entry, Line, Note, ProcName, Verdict, What};
-use ch_node::Node;
+use ch_model::{Entry, Line, ProcName, TargetName, Verdict, What};
+use ch_node::{Command, CommandError, Node, Note};
 use std::alloc::Global;
 use std::marker::Model;
 
@@ -24,7 +24,7 @@ pub(crate) struct World {
 }
 
 impl Model for World {
-    ghost use Rattle.ch_model.specs.States.{World as WorldState};
+    ghost use Rattle.ch_one_node.specs.States.{World as WorldState};
 
     ghost Value = { WorldState };
 
@@ -68,6 +68,8 @@ impl World {
         Ok(match note {
             Note::Made { process } => Entry::Made {
                 process: self.name(process)?,
+                spawn: None,
+                label: None,
             },
             Note::Said {
                 by,
@@ -77,7 +79,9 @@ impl World {
                 message,
             } => Entry::Said {
                 by: self.name(by)?,
-                to: self.name(to)?,
+                to: TargetName::Process {
+                    process: self.name(to)?,
+                },
                 epoch: *epoch,
                 index: *index,
                 mark: message.mark.copy()?,
@@ -85,13 +89,16 @@ impl World {
             },
             Note::Got { by, to, receiver } => Entry::Got {
                 by: self.name(by)?,
-                to: self.name(to)?,
+                to: TargetName::Process {
+                    process: self.name(to)?,
+                },
                 epoch: place.0,
                 index: place.1,
-                receiver: self.name(receiver)?,
+                receiver: Some(self.name(receiver)?),
             },
             Note::Took { by, message } => Entry::Took {
                 by: self.name(by)?,
+                port: None,
                 mark: message.mark.copy()?,
                 body: message.body.copy()?,
             },
@@ -166,20 +173,38 @@ impl World {
         self.node.command(by, Command::Send { to, message })
     }
 
+    /// What a `send` to this target does: only processes are sent to.
+    fn send_to(
+        &mut self,
+        alloc: Global,
+        number: u32,
+        by: &ProcName,
+        to: TargetName,
+        message: Message,
+    ) -> Result<Vec<Entry>, Stop>
+        ensures { MatchResult result (λ es. sent_to self.old number by.now to message ≡ Ok (es.items, self.new)) (λ e. Stops e (sent_to self.old number by.now to message)) }
+    {
+        match to {
+            TargetName::Process { process } => {
+                let done = self.send(by.counter, process.counter, message);
+                self.answered(alloc, number, done)
+            }
+            _ => Ok(Vec::new(alloc)),
+        }
+    }
+
     /// What an event line does.
     fn event(&mut self, alloc: Global, line: Line) -> Result<Vec<Entry>, Stop>
         ensures { MatchResult result (λ es. event_of self.old line.number line.what ≡ Ok (es.items, self.new)) (λ e. Stops e (event_of self.old line.number line.what)) }
     {
         let number = line.number;
         match line.what {
-            What::Node { .. } => Ok(Vec::new(alloc)),
             What::Proc { .. } => {
                 let done = self.node.make();
                 self.answered(alloc, number, done)
             }
             What::Send { by, to, mark, body } => {
-                let done = self.send(by.counter, to.counter, Message { mark, body });
-                self.answered(alloc, number, done)
+                self.send_to(alloc, number, &by, to, Message { mark, body })
             }
             What::Recv { by, mark } => {
                 let done = self.node.command(by.counter, Command::Receive { mark });
@@ -189,6 +214,7 @@ impl World {
                 let done = self.node.command(by.counter, Command::End);
                 self.answered(alloc, number, done)
             }
+            _ => Ok(Vec::new(alloc)),
         }
     }
 }

@@ -1,10 +1,9 @@
 //! Lines that are read, with their canonical texts; lines that are refused, with their kind and
-//! place; the texts of entries and of statuses.
+//! place; the texts of statuses.
 
 use ch_base::Text;
-use ch_ident::{IdentError, Name, Reason};
-use ch_journal::{JournalError, Reading, Status, put_entry, put_line};
-use ch_model::{BadKind, Entry, Line, ProcName, Verdict};
+use ch_journal::{JournalError, Reading, Status, put_line};
+use ch_model::{BadKind, Line};
 use std::alloc::{AllocError, Global};
 use std::process::Abort;
 use std::test::Fail;
@@ -229,112 +228,6 @@ fn a_refusal_stays(rt: HostRuntime) {
     assert_eq!(rt; reading.line(b"proc a").err(), refused);
     assert_eq!(rt; reading.line(b"bad").err(), refused);
     assert_eq!(rt; reading.lines_read(), 2);
-}
-
-fn process(alloc: Global, counter: u32) -> Result<ProcName, AllocError> {
-    Ok(ProcName {
-        node: Text::from_vec(Vec::from_slice(alloc, b"a")?),
-        counter,
-    })
-}
-
-fn body(alloc: Global, bytes: &[u8]) -> Result<Text, AllocError> {
-    Ok(Text::from_vec(Vec::from_slice(alloc, bytes)?))
-}
-
-fn mark(alloc: Global) -> Result<Name, IdentError> {
-    Name::new(alloc, b"t")
-}
-
-/// One entry after another, with the text of each.
-#[test]
-fn texts_of_entries(rt: HostRuntime) -> Result<(), Fail> {
-    let alloc = rt.alloc();
-    let rows = [
-        (
-            Entry::Line {
-                number: 4294967295,
-                answer: Verdict::Ok,
-            },
-            b"line 4294967295 ok\n".as_slice(),
-        ),
-        (
-            Entry::Line {
-                number: 3,
-                answer: Verdict::Unknown,
-            },
-            b"line 3 unknown\n".as_slice(),
-        ),
-        (
-            Entry::Line {
-                number: 10,
-                answer: Verdict::Dead,
-            },
-            b"line 10 dead\n".as_slice(),
-        ),
-        (
-            Entry::Line {
-                number: 6,
-                answer: Verdict::Empty,
-            },
-            b"line 6 empty\n".as_slice(),
-        ),
-        (
-            Entry::Made {
-                process: process(alloc, 0)?,
-            },
-            b"made a.0 - -\n".as_slice(),
-        ),
-        (
-            Entry::Said {
-                by: process(alloc, 0)?,
-                to: process(alloc, 1)?,
-                epoch: 0,
-                index: 18446744073709551615,
-                mark: mark(alloc)?,
-                body: body(alloc, b"\x01\xff")?,
-            },
-            b"said a.0 a.1 0 18446744073709551615 t 01ff\n".as_slice(),
-        ),
-        (
-            Entry::Got {
-                by: process(alloc, 0)?,
-                to: process(alloc, 1)?,
-                epoch: 2,
-                index: 10,
-                receiver: process(alloc, 1)?,
-            },
-            b"got a.0 a.1 2 10 a.1\n".as_slice(),
-        ),
-        (
-            Entry::Took {
-                by: process(alloc, 1)?,
-                mark: mark(alloc)?,
-                body: body(alloc, b"")?,
-            },
-            b"took a.1 t -\n".as_slice(),
-        ),
-        (
-            Entry::Over {
-                process: process(alloc, 1)?,
-                reason: Reason::Normal,
-            },
-            b"over a.1 normal\n".as_slice(),
-        ),
-        (
-            Entry::Over {
-                process: process(alloc, 1)?,
-                reason: Reason::Exception(body(alloc, b"odd")?),
-            },
-            b"over a.1 exception odd\n".as_slice(),
-        ),
-    ];
-    for (entry, wanted) in &rows {
-        let mut out = Vec::new(alloc);
-        assert!(rt; put_entry(entry, &mut out).is_ok());
-        assert_eq!(rt; out.as_slice(), *wanted);
-    }
-    Ok(())
 }
 
 /// The exit numbers and the texts on standard error.

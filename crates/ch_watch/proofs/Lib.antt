@@ -1,1 +1,2 @@
-pub mod Taking
+pub mod Rising
+pub mod NameTables

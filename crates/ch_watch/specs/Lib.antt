@@ -1,6 +1,9 @@
 pub mod Firsts
 pub mod Same
 pub mod Open
+pub mod OpenNumbers
+pub mod Rising
 pub mod Names
+pub mod Tables
 pub mod Lists
 pub mod Watches

@@ -2,7 +2,7 @@
 
 ghost use Rattle.std.specs.Prelude.{◌≡◌, IfOk};
 
-use crate::named::{Named, names_of};
+use crate::name_table::NameTable;
 use crate::watched::{Watched, watches_on};
 use ch_base::OutOfMemory;
 use ch_ident::{Name, Ref};
@@ -54,13 +54,13 @@ impl Ending {
     #[tactic(auto, unfolding(crate::specs::Watches::ending_of))]
     pub fn of(
         alloc: Global,
-        names: &[Named],
+        names: &NameTable,
         watched: &[Watched],
         process: u32,
     ) -> Result<Ending, OutOfMemory>
         ensures { IfOk result (λ ending. ending ≡ ending_of names.now watched.now process) }
     {
-        let names = names_of(alloc, names, process)?;
+        let names = names.names_of(alloc, process)?;
         let watches = watches_on(alloc, watched, process)?;
         Ok(Ending { names, watches })
     }

@@ -6,7 +6,9 @@
 
 mod ending;
 mod error;
+mod name_table;
 mod named;
+mod open_numbers;
 mod same;
 mod waiting;
 mod watched;

@@ -1,17 +1,10 @@
-//! When two names, two addresses or two references are one.
+//! When two addresses or two references are one.
 
 ghost use Rattle.std.specs.Prelude.{◌≡◌};
-ghost use Rattle.std.specs.Str.{bytes_eq};
 ghost use Rattle.ch_watch.specs.Same.{same_node as same_node_of, same_ref as same_ref_of, node_of as node_of_identifier};
 
 use ch_base::Address;
-use ch_ident::{Identifier, Name, Ref};
-
-pub fn same_name(a: &Name, b: &Name) -> bool
-    ensures { result ≡ bytes_eq a.now b.now }
-{
-    a.bytes.as_slice() == b.bytes.as_slice()
-}
+use ch_ident::{Identifier, Ref};
 
 #[tactic(auto, unfolding(crate::specs::Same::same_node))]
 pub fn same_node(a: &Address, b: &Address) -> bool

@@ -5,10 +5,11 @@ ghost use Rattle.std.specs.Option.{option_copied};
 
 use crate::ending::Ending;
 use crate::error::WatchError;
-use crate::named::Named;
+use crate::name_table::NameTable;
+use crate::open_numbers::OpenNumbers;
 use crate::waiting::{Kind, Waiting};
+use crate::watched;
 use crate::watched::Watched;
-use crate::{named, waiting, watched};
 use ch_base::{Address, OutOfMemory, Stop};
 use ch_ident::{Identifier, Name, Ref};
 use std::alloc::Global;
@@ -18,10 +19,9 @@ use std::marker::Model;
 /// and its names. Contracts see three lists and the next number.
 #[derive(Debug, Drop)]
 pub struct Watches {
-    next: u32,
-    waiting: Vec<Waiting>,
+    numbers: OpenNumbers,
     watched: Vec<Watched>,
-    names: Vec<Named>,
+    names: NameTable,
 }
 
 impl Model for Watches {
@@ -29,7 +29,7 @@ impl Model for Watches {
 
     ghost Value = { Lists };
 
-    ghost view = { λ watches. record { next = watches.next; waiting = watches.waiting.items; watched = watches.watched.items; names = watches.names.items } };
+    ghost view = { λ watches. record { next = watches.numbers.next; waiting = watches.numbers.waiting; watched = watches.watched.items; names = watches.names } };
 }
 
 impl Watches {
@@ -41,41 +41,39 @@ impl Watches {
         ensures { result ≡ nothing }
     {
         Watches {
-            next: 0,
-            waiting: Vec::new(alloc),
+            numbers: OpenNumbers::new(alloc),
             watched: Vec::new(alloc),
-            names: Vec::new(alloc),
+            names: NameTable::new(alloc),
         }
     }
 
     /// Opens the next number for an owner, and answers it. It stops as `Worn` exactly where the counter of
     /// numbers can't grow. After a stop nothing is changed.
+    /// Cost: the logarithm of the open numbers, and a copy of the target.
     #[tactic(auto, unfolding(crate::specs::Watches::watch_of))]
     pub fn watch(&mut self, owner: u32, kind: Kind, target: &Identifier) -> Result<u32, Stop>
         ensures does { MatchResult result (λ number. watch_of self.old owner kind target.now ≡ Ok (number, self.new)) (λ e. Stops e (watch_of self.old owner kind target.now)) }
         ensures err { OnErr result (self.new ≡ self.old) }
     {
-        let number = self.next;
+        let number = self.numbers.next();
         if number == u32::MAX {
             return Err(Stop::Worn);
         }
-        match waiting::open(&mut self.waiting, number, owner, kind, target) {
+        match self.numbers.open_next(owner, kind, target) {
             Err(OutOfMemory) => Err(Stop::OutOfMemory),
-            Ok(()) => {
-                self.next += 1;
-                Ok(number)
-            }
+            Ok(()) => Ok(number),
         }
     }
 
     /// Closes a monitor or link of an owner. It is refused with `NoRef` exactly where none of that owner is
     /// open under the number, and then nothing is changed. It takes no memory.
+    /// Cost: the logarithm of the open numbers.
     #[tactic(auto, unfolding(crate::specs::Watches::unwatch_of))]
     pub fn unwatch(&mut self, owner: u32, number: u32) -> Result<Waiting, WatchError>
         ensures does { MatchResult result (λ closed. unwatch_of self.old owner number ≡ Ok (closed, self.new)) (λ e. unwatch_of self.old owner number ≡ Err e) }
         ensures err { OnErr result (self.new ≡ self.old) }
     {
-        match waiting::close_watch(&mut self.waiting, owner, number) {
+        match self.numbers.close_watch(owner, number) {
             None => Err(WatchError::NoRef),
             Some(closed) => Ok(closed),
         }
@@ -83,12 +81,13 @@ impl Watches {
 
     /// Closes a number of any kind, as what it awaits has come. It is refused with `NoRef` exactly where
     /// the number isn't open, and then nothing is changed. It takes no memory.
+    /// Cost: the logarithm of the open numbers.
     #[tactic(auto, unfolding(crate::specs::Watches::told_of))]
     pub fn told(&mut self, number: u32) -> Result<Waiting, WatchError>
         ensures does { MatchResult result (λ closed. told_of self.old number ≡ Ok (closed, self.new)) (λ e. told_of self.old number ≡ Err e) }
         ensures err { OnErr result (self.new ≡ self.old) }
     {
-        match waiting::close_number(&mut self.waiting, number) {
+        match self.numbers.close_number(number) {
             None => Err(WatchError::NoRef),
             Some(closed) => Ok(closed),
         }
@@ -96,14 +95,16 @@ impl Watches {
 
     /// The monitor or link of an owner that is open under a number. It is `None` exactly where `unwatch`
     /// is refused. It takes no memory.
+    /// Cost: the logarithm of the open numbers.
     #[tactic(auto, unfolding(crate::specs::Watches::waiting_of))]
     pub fn waiting(&self, owner: u32, number: u32) -> Option<&Waiting>
         ensures { option_copied result ≡ waiting_of self.now owner number }
     {
-        waiting::find_watch(&self.waiting, owner, number)
+        self.numbers.find_watch(owner, number)
     }
 
     /// Keeps a watch on an own process. After `OutOfMemory` nothing is changed.
+    /// Cost: a copy of the reference.
     #[tactic(auto, unfolding(crate::specs::Watches::arrive_of))]
     pub fn arrive(&mut self, target: u32, watch: &Ref) -> Result<(), OutOfMemory>
         ensures does { IfOk result (λ _. self.new ≡ arrive_of self.old target watch.now) }
@@ -118,6 +119,7 @@ impl Watches {
     }
 
     /// Drops a watch on an own process, and answers whether it was kept. It takes no memory.
+    /// Cost: a walk over the watches kept.
     #[tactic(auto, unfolding(crate::specs::Watches::forget_of))]
     pub fn forget(&mut self, watch: &Ref) -> bool
         ensures { (result, self.new) ≡ forget_of self.old watch.now }
@@ -130,65 +132,69 @@ impl Watches {
     /// The end of a process: hands out its names in order of registering and the watches kept on it in
     /// order of arrival, drops both, and closes its own open numbers. After `OutOfMemory` nothing is
     /// changed.
+    /// Cost: a walk over the names, the watches kept and the open numbers.
     #[tactic(auto, unfolding(crate::specs::Watches::ended_of))]
     pub fn ended(&mut self, process: u32) -> Result<Ending, OutOfMemory>
         ensures does { IfOk result (λ ending. (ending, self.new) ≡ ended_of self.old process) }
         ensures err { OnErr result (self.new ≡ self.old) }
     {
-        let alloc = *self.names.allocator();
+        let alloc = *self.watched.allocator();
         let ending = Ending::of(alloc, &self.names, &self.watched, process)?;
-        named::drop_names(&mut self.names, process);
+        self.names.drop_process(process);
         watched::drop_process(&mut self.watched, process);
-        waiting::close_owner(&mut self.waiting, process);
+        self.numbers.close_owner(process);
         Ok(ending)
     }
 
     /// A break with a peer: hands out the open numbers that await something of it, in rising order, closes
     /// them, and drops what the peer's processes watch here. After `OutOfMemory` nothing is changed.
+    /// Cost: a walk over the open numbers and the watches kept.
     #[tactic(auto, unfolding(crate::specs::Watches::lost_of))]
     pub fn lost(&mut self, peer: &Address) -> Result<Vec<Waiting>, OutOfMemory>
         ensures does { IfOk result (λ lost. (lost.items, self.new) ≡ lost_of self.old peer.now) }
         ensures err { OnErr result (self.new ≡ self.old) }
     {
-        let lost = waiting::awaiting(*self.waiting.allocator(), &self.waiting, peer)?;
-        waiting::close_peer(&mut self.waiting, peer);
+        let lost = self.numbers.awaiting(*self.watched.allocator(), peer)?;
+        self.numbers.close_peer(peer);
         watched::drop_node(&mut self.watched, peer);
         Ok(lost)
     }
 
     /// Registers a name for a process. It is refused with `Taken` exactly where the name stands. A refusal
     /// changes nothing.
+    /// Cost: two look-ups by key, and two copies of the name.
     #[tactic(auto, unfolding(crate::specs::Watches::register_of))]
     pub fn register(&mut self, name: &Name, process: u32) -> Result<(), WatchError>
         ensures does { MatchResult result (λ _. register_of self.old name.now process ≡ Ok self.new) (λ e. Fails e (register_of self.old name.now process)) }
         ensures err { OnErr result (self.new ≡ self.old) }
     {
-        if named::stands(&self.names, name) {
+        if self.names.has(name) {
             return Err(WatchError::Taken);
         }
-        let name = name.copy()?;
-        self.names.push(Named { name, process })?;
+        self.names.add(name, process)?;
         Ok(())
     }
 
     /// Takes a name away, and answers the process for which it stood. It is refused with `NoName` exactly
     /// where the name doesn't stand, and then nothing is changed. It takes no memory.
+    /// Cost: a look-up by key, and a move of each name that was registered after it.
     #[tactic(auto, unfolding(crate::specs::Watches::unregister_of))]
     pub fn unregister(&mut self, name: &Name) -> Result<u32, WatchError>
         ensures does { MatchResult result (λ process. unregister_of self.old name.now ≡ Ok (process, self.new)) (λ e. unregister_of self.old name.now ≡ Err e) }
         ensures err { OnErr result (self.new ≡ self.old) }
     {
-        match named::take_name(&mut self.names, name) {
+        match self.names.take(name) {
             None => Err(WatchError::NoName),
             Some(named) => Ok(named.process),
         }
     }
 
     /// The process for which a name stands. It takes no memory.
+    /// Cost: a look-up by key.
     #[tactic(auto, unfolding(crate::specs::Watches::find_of))]
     pub fn find(&self, name: &Name) -> Option<u32>
         ensures { result ≡ find_of self.now name.now }
     {
-        named::process_of(&self.names, name)
+        self.names.process_of(name)
     }
 }

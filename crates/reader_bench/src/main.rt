@@ -84,6 +84,21 @@ fn drain(reader: &mut Reader, piece: &[u8], counts: &mut Counts) -> Result<(), T
     Err(Trouble::NothingTaken)
 }
 
+/// Feeds a block in pieces of this size.
+fn feed_all(
+    reader: &mut Reader,
+    block: &[u8],
+    piece: usize,
+    counts: &mut Counts,
+) -> Result<(), Trouble>
+    requires { 1 ≤ piece }
+{
+    for part in block.chunks(piece) {
+        drain(reader, part, counts)?;
+    }
+    Ok(())
+}
+
 fn count(counts: &mut Counts, item: &Item) {
     if let Item::Frame(Frame::Data(_, payload)) = item {
         counts.frames = counts.frames.wrapping_add(1);
@@ -114,9 +129,7 @@ fn main(rt: HostRuntime) -> Result<()> {
     drain(&mut reader, b"\0\0\0\0", &mut counts).map_err(stopped)?;
     let mut fed = 0usize;
     for _ in 0..times {
-        for part in block.as_slice().chunks(piece) {
-            drain(&mut reader, part, &mut counts).map_err(stopped)?;
-        }
+        feed_all(&mut reader, block.as_slice(), piece, &mut counts).map_err(stopped)?;
         fed = fed.saturating_add(block.len());
     }
     let frames = counts.frames;

@@ -1,5 +1,5 @@
 use Rattle.std.proofs.Common.{◌≡◌, ◌++◌, drop}
-use Rattle.ch_model.specs.World.{entries_from}
+use Rattle.ch_one_node.specs.World.{entries_from}
 use Rattle.ch_replay.proofs.world.World.entries.Given as goal
 
 -- the entries so far, and those of the notes that are left

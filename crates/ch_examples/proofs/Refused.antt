@@ -1,0 +1,96 @@
+-- Refused and accepted lines, computed.
+use Rattle.std.specs.Prelude.{◌≡◌, ℕ, List, [], ◌∷◌, ◌++◌, map, replicate, length, Option, Some, None, codes}
+use Rattle.std.proofs.Common.{refl}
+use Rattle.std.specs.Fmt.{digits}
+use Rattle.hex.specs.Hex.{encode_with, decode_pairs}
+use Rattle.ch_base.specs.Addresses.{host_at, port_at as port_at_of_addresses, read_address}
+use Rattle.ch_ident.specs.Reading.{name_of, piece_at, tested_at, name_at, text_at, long_at, address_at, process_at, port_at as port_at_of_reading, reference_at, identifier_at, reason_at, found_at, opening_at, monitor_at, unmonitor_at, link_at, unlink_at, spawn_at, did_spawn_at, died_at, where_is_at, is_at_at, named_send_at, exit_at, kill_at, fields_at, message_at, whole, identifier_of, message_of, user_of}
+use Rattle.ch_light.specs.Ids.{id_of, give_of, close_of, created_of, conn_of, closed_of}
+use Rattle.ch_link.specs.Table.{step_of}
+use Rattle.ch_mail.specs.Mail.{newborn, waiting_in, appended, given_to, taken_from, taken_from_port, opened_by, ended, doomed, make_of, life_of, doom_of, end_of as end_of_of_mail, put_of, take_of, take_port_of, open_port_of, waiting_of as waiting_of_of_mail}
+use Rattle.ch_mail.specs.Queue.{first_of_mark, first_of}
+use Rattle.ch_model.specs.Fields.{field_of, last_of, node_name_of, digits_of, word_of, sent_mark_of, bytes_of, address_of, host_of, end_of as end_of_of_fields, text_of, number_in, count_in}
+use Rattle.ch_model.specs.FieldsOfNames.{process_of, destination_parts, destination_of, named_of, reference_of, socket_of, numbered, numbered_target, numbered_destination, numbered_reference, numbered_socket}
+use Rattle.ch_model.specs.Host.{host_on, host_next}
+use Rattle.ch_model.specs.HostCalls.{host_open, host_connect, host_send, host_close, host_close_endpoint, host_room, host_timer_runs}
+use Rattle.ch_model.specs.Lines.{line_of_word, line_said}
+use Rattle.ch_model.specs.LinesBuilt.{only_node_line, send_process_line}
+use Rattle.ch_model.specs.LinesDeclared.{place_line, node_line, away_line, label_line, stranger_line}
+use Rattle.ch_model.specs.LinesOfPeers.{process_and_peer, process_peer_and_text, monitor_line, link_line, unwatch_line, exit_line, kill_line, spawn_line, whereis_line}
+use Rattle.ch_model.specs.LinesOfProcesses.{process_alone, process_and_word, proc_line, send_line, nsend_line, again_line, recv_line, port_line, take_line, end_line, fail_line, fall_line, register_line, unregister_line}
+use Rattle.ch_model.specs.LinesOfSockets.{socket_alone, socket_and_end, shut_line, join_line, come_line, refuse_line, feed_line, cut_line, lose_line, late_line, knock_line, poke_line, quit_line, settle_line}
+use Rattle.ch_model.specs.LinesTold.{early_in, declared_in, peer_in, stranger_in, opener_in, new_name, new_address, new_host, new_label}
+use Rattle.ch_model.specs.Node.{node_new, node_make, node_command, node_event, node_shut, node_watched, target_node, node_life, node_waiting, node_args}
+use Rattle.ch_model.specs.NodeActs.{growing}
+use Rattle.ch_model.specs.NodeArrivals.{bound_between, bind, received, arrives, departs, lost_told, peer_lost}
+use Rattle.ch_model.specs.NodeAsks.{spawned, tell_spawned, fail_unlabelled, spawn_arrives, found, tell_found, standing, question_arrives, doom_arrives}
+use Rattle.ch_model.specs.NodeCommands.{send_of, again_of, receive_of, take_port, open_port, finish_of, fall_of}
+use Rattle.ch_model.specs.NodeConnections.{drawn, opening, conn_to, tell_first, tell_node}
+use Rattle.ch_model.specs.NodeEnds.{farewell, over}
+use Rattle.ch_model.specs.NodeIds.{is_own, life_here, is_living, has_port, is_port_here}
+use Rattle.ch_model.specs.NodeLives.{make, doom, mail_to}
+use Rattle.ch_model.specs.NodeMessages.{handle, is_for_peer, ask}
+use Rattle.ch_model.specs.NodePairs.{same_process, same_port, same_target, is_pair, pair_of, next_epoch, conns_by, closed_pairs, lost_pair}
+use Rattle.ch_model.specs.NodeRequests.{watch, watch_by, unwatch_by, doom_by, question, spawn_by, whereis_by, register_by, unregister_by}
+use Rattle.ch_model.specs.NodeRoom.{acting, falling, is_known, known, fitting, not_full, opened_besides, not_spent, room_to_send}
+use Rattle.ch_model.specs.NodeSends.{get, deliver, send_first, carry, say, reconnect}
+use Rattle.ch_model.specs.NodeWatches.{watch_under, is_awaited, closing, monitor_told, link_told, told, tell_end, absent, watch_arrives, watch_leaves}
+use Rattle.ch_static.specs.Labels.{place_of, add_of}
+use Rattle.ch_watch.specs.Names.{has_name}
+use Rattle.ch_watch.specs.Open.{has_number, is_watch_of, awaits}
+use Rattle.ch_watch.specs.Same.{node_of, same_node, same_ref}
+use Rattle.ch_watch.specs.Watches.{nothing, watch_of, unwatch_of, told_of, waiting_of as waiting_of_of_watches, lost_of, arrive_of, forget_of, ending_of, ended_of, register_of, unregister_of, find_of}
+use Rattle.ch_model.specs.declared.refusal.BadKind.TheVariants.{Form, Number, Undeclared, Repeated, Late}
+use Rattle.ch_model.specs.declared.refusal.LineFault.TheVariants.{Bad, TooLong}
+use Rattle.ch_model.specs.Lines.{whole as all_lines}
+use Rattle.ch_model.specs.Journal.{journal_of, first_fault}
+use Rattle.ch_model.specs.Spelling.{journal_text}
+use Rattle.ch_examples.specs.Shown.{shown, faults, as_lines}
+use Rattle.ch_examples.specs.Refused.{declared, running, after_event, forms, numbers, undeclared, repeated, accepted, late, late_numbers, late_forms, headless, every_word}
+
+-- the rows, one after another
+record Refusals : Type 0 where
+  -- each of these lines is refused as of the wrong form
+  forms_are : faults (map declared forms) ≡ replicate 21 (Some (7, Bad Form))
+  -- each for its number
+  numbers_are : faults (map declared numbers) ≡ replicate 8 (Some (7, Bad Number))
+  -- each as undeclared
+  undeclared_are : faults (map declared undeclared) ≡ replicate 12 (Some (7, Bad Undeclared))
+  -- each as repeated
+  repeated_are : faults (map declared repeated) ≡ replicate 7 (Some (7, Bad Repeated))
+  -- each is accepted
+  accepted_are : faults (map declared accepted) ≡ replicate 16 None
+  -- each is late, if its form and its numbers are right
+  late_are : faults (map after_event late) ≡ replicate 3 (Some (8, Bad Late))
+  -- else refused for its number
+  late_numbers_are : faults (map after_event late_numbers) ≡ Some (8, Bad Number) ∷ []
+  -- or its form
+  late_forms_are : faults (map after_event late_forms) ≡ Some (8, Bad Form) ∷ []
+  -- a journal begins with its header
+  headless_are : faults ([] ∷ map as_lines headless) ≡ replicate 6 (Some (1, Bad Form))
+  -- a wrong number; what was done before it is told
+  after_number : shown (running (codes "feed a>b.0 t 01")) ≡ (Some (6, Bad Number), Some (as_lines (codes "line 4 ok | made a.0 - - | line 5 ok | made b.0 - -")))
+  -- a name that is not declared; what was done before it is told
+  after_undeclared : shown (running (codes "send a.0 q.0 t 01")) ≡ (Some (6, Bad Undeclared), Some (as_lines (codes "line 4 ok | made a.0 - - | line 5 ok | made b.0 - -")))
+  -- a late declaration; what was done before it is told
+  after_late : shown (running (codes "node c k:1:0 1")) ≡ (Some (6, Bad Late), Some (as_lines (codes "line 4 ok | made a.0 - - | line 5 ok | made b.0 - -")))
+  -- no line; what was done before it is told
+  after_form : shown (running (codes "hello")) ≡ (Some (6, Bad Form), Some (as_lines (codes "line 4 ok | made a.0 - - | line 5 ok | made b.0 - -")))
+  -- a line of 8,192 bytes is read
+  longest_line : first_fault all_lines (running (codes "send a.0 b.0 tt " ++ replicate 8176 48)) ≡ None
+  -- one of 8,193 bytes is too long
+  too_long_line : first_fault all_lines (running (codes "send a.0 b.0 t " ++ replicate 8178 48)) ≡ Some (6, TooLong)
+  -- the header alone is a journal, whose log is empty
+  header_alone : shown (codes "chjournal 1") ≡ (None, Some [])
+  -- also with its newline
+  header_and_newline : shown (codes "chjournal 1\n") ≡ (None, Some [])
+  -- empty lines and comments fall away in the canonical text, and bytes are spelled in lower case
+  canonical : journal_text (journal_of all_lines (as_lines (codes "chjournal 1 | ; two |  | node a h:1:0 7 | proc a | send a.0 a.0 t AB"))) ≡ as_lines (codes "chjournal 1 | node a h:1:0 7 | proc a | send a.0 a.0 t ab")
+  -- a canonical text with every word is read
+  every_word_is_read : first_fault all_lines every_word ≡ None
+  -- and spelled as it was
+  every_word_is_spelled : journal_text (journal_of all_lines every_word) ≡ every_word
+
+refusals : Refusals
+unfolding digits encode_with decode_pairs host_at port_at_of_addresses read_address name_of piece_at tested_at name_at text_at long_at address_at process_at port_at_of_reading reference_at identifier_at reason_at found_at opening_at monitor_at unmonitor_at link_at unlink_at spawn_at did_spawn_at died_at where_is_at is_at_at named_send_at exit_at kill_at fields_at message_at whole identifier_of message_of user_of id_of give_of close_of created_of conn_of closed_of step_of newborn waiting_in appended given_to taken_from taken_from_port opened_by ended doomed make_of life_of doom_of end_of_of_mail put_of take_of take_port_of open_port_of waiting_of_of_mail first_of_mark first_of field_of last_of node_name_of digits_of word_of sent_mark_of bytes_of address_of host_of end_of_of_fields text_of number_in count_in process_of destination_parts destination_of named_of reference_of socket_of numbered numbered_target numbered_destination numbered_reference numbered_socket host_on host_next host_open host_connect host_send host_close host_close_endpoint host_room host_timer_runs line_of_word line_said only_node_line send_process_line place_line node_line away_line label_line stranger_line process_and_peer process_peer_and_text monitor_line link_line unwatch_line exit_line kill_line spawn_line whereis_line process_alone process_and_word proc_line send_line nsend_line again_line recv_line port_line take_line end_line fail_line fall_line register_line unregister_line socket_alone socket_and_end shut_line join_line come_line refuse_line feed_line cut_line lose_line late_line knock_line poke_line quit_line settle_line early_in declared_in peer_in stranger_in opener_in new_name new_address new_host new_label node_new node_make node_command node_event node_shut node_watched target_node node_life node_waiting node_args growing bound_between bind received arrives departs lost_told peer_lost spawned tell_spawned fail_unlabelled spawn_arrives found tell_found standing question_arrives doom_arrives send_of again_of receive_of take_port open_port finish_of fall_of drawn opening conn_to tell_first tell_node farewell over is_own life_here is_living has_port is_port_here make doom mail_to handle is_for_peer ask same_process same_port same_target is_pair pair_of next_epoch conns_by closed_pairs lost_pair watch watch_by unwatch_by doom_by question spawn_by whereis_by register_by unregister_by acting falling is_known known fitting not_full opened_besides not_spent room_to_send get deliver send_first carry say reconnect watch_under is_awaited closing monitor_told link_told told tell_end absent watch_arrives watch_leaves place_of add_of has_name has_number is_watch_of awaits node_of same_node same_ref nothing watch_of unwatch_of told_of waiting_of_of_watches lost_of arrive_of forget_of ending_of ended_of register_of unregister_of find_of
+refusals = record { forms_are = refl; numbers_are = refl; undeclared_are = refl; repeated_are = refl; accepted_are = refl; late_are = refl; late_numbers_are = refl; late_forms_are = refl; headless_are = refl; after_number = refl; after_undeclared = refl; after_late = refl; after_form = refl; longest_line = refl; too_long_line = refl; header_alone = refl; header_and_newline = refl; canonical = refl; every_word_is_read = refl; every_word_is_spelled = refl }

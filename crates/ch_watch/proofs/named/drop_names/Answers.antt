@@ -1,6 +1,0 @@
-use Rattle.std.proofs.Common.{rules, ◌==◌, not}
-use Rattle.std.proofs.lemmas.Fn.{filter_same}
-use Rattle.ch_watch.proofs.named.drop_names.Goals as goal
-
-pub returns : goal.returns
-returns c = filter_same _ (λ named. not (named.process == c.args.process)) _ (λ x b f. search rules) _ _ c.retain.ensures.filtered
