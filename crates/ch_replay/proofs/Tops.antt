@@ -12,12 +12,16 @@ use Rattle.ch_model.specs.World.{log_of as whole_log_of}
 use Rattle.ch_one_node.specs.World.{◌>>=◌, log_of}
 use Rattle.ch_model.specs.Journal.{longest_journal, raw_lines, journal_of, first_fault}
 use Rattle.ch_model.specs.Spelling.{log_text}
+use Rattle.ch_model.specs.Lawful.{IsPromised}
 use Rattle.ch_laws_one_node.specs.Lawful.{IsLawful}
 use Rattle.ch_laws_one_node.proofs.Reading.{of_one_node}
 use Rattle.ch_laws_one_node.proofs.Law.{lawful_log}
 use Rattle.ch_laws_one_node.proofs.Limits.{all_within}
 use Rattle.ch_laws_one_node.proofs.Frames.{all_framed}
+use Rattle.ch_laws_one_node.proofs.Places.{all_numbered}
+use Rattle.ch_laws_one_node.proofs.Blocks.{without_fault}
 use Rattle.ch_laws_one_node.proofs.WholeModel.{same_log}
+use Rattle.ch_laws_one_node.proofs.WholeLaw.{lawful_of_one_node}
 use Rattle.ch_journal.specs.declared.status.Status.{Status}
 use Rattle.ch_journal.specs.declared.status.Status.TheVariants.{Done, BadLine, TooLong, WriteFault, Worn}
 use Rattle.ch_replay.specs.Outside.{IsIntake, Appended, AppendedSome}
@@ -50,8 +54,11 @@ whole_is bytes = same_log (journal_of one_node bytes) (of_one_node (raw_lines (t
 law : (bytes : List ℕ) (log : List Entry) → log_of (journal_of one_node bytes) ≡ Ok log → IsLawful (journal_of one_node bytes) log
 law bytes log is = lawful_log (journal_of one_node bytes) log (of_one_node (raw_lines (take (longest_journal + 1) bytes))) is
 
+promises : (bytes : List ℕ) (log : List Entry) → log_of (journal_of one_node bytes) ≡ Ok log → IsPromised (journal_of one_node bytes) log
+promises bytes log is = lawful_of_one_node 1 (journal_of one_node bytes) log (of_one_node (raw_lines (take (longest_journal + 1) bytes))) (all_framed (raw_lines (take (longest_journal + 1) bytes))) (without_fault 1 (journal_of one_node bytes) (first_fault one_node bytes) (all_numbered (raw_lines (take (longest_journal + 1) bytes)))) is
+
 logged : (bytes text : List ℕ) (fault : Option (ℕ × LineFault)) (held0 held1 : Option (List ℕ)) → Logs bytes text fault → Appended text held0 held1 → IsLogged bytes held0 held1
-logged bytes text fault held0 held1 l a = record { log = l.log; is_log = whole_is bytes ∙ l.is_log; lawful = law bytes l.log l.is_log; appended = subst (λ (t : List ℕ). Appended t held0 held1) (sym l.text_is) a }
+logged bytes text fault held0 held1 l a = record { log = l.log; is_log = whole_is bytes ∙ l.is_log; lawful = law bytes l.log l.is_log; promised = promises bytes l.log l.is_log; appended = subst (λ (t : List ℕ). Appended t held0 held1) (sym l.text_is) a }
 
 -- a journal without a fault was taken whole, and nothing is left
 nothing_left : (bytes journal : List ℕ) (left : Option (List ℕ)) → journal ≡ take (longest_journal + 1) bytes → (length journal < longest_journal + 1 → left ≡ Some []) → first_fault one_node bytes ≡ None → left ≡ Some []
@@ -76,7 +83,7 @@ ends_written (Some bytes) left1 held0 held1 journal text (Some (n, faults.TooLon
 pub ends_in_part : (left0 left1 held0 held1 : Option (List ℕ)) (journal text : List ℕ) (fault : Option (ℕ × LineFault)) → IsIntake left0 left1 journal → replay_of journal ≡ Ok (text, fault) → AppendedSome text held0 held1 → Ends WriteFault left0 left1 held0 held1
 ends_in_part None left1 held0 held1 journal text fault i d a = tt
 ends_in_part (Some bytes) left1 held0 held1 journal text fault i d a =
-    let l = logs bytes journal text fault i.0 d in record { log = l.log; is_log = whole_is bytes ∙ l.is_log; lawful = law bytes l.log l.is_log; appended = subst (λ (t : List ℕ). AppendedSome t held0 held1) (sym l.text_is) a }
+    let l = logs bytes journal text fault i.0 d in record { log = l.log; is_log = whole_is bytes ∙ l.is_log; lawful = law bytes l.log l.is_log; promised = promises bytes l.log l.is_log; appended = subst (λ (t : List ℕ). AppendedSome t held0 held1) (sym l.text_is) a }
 
 -- a count of the model stands at its last value
 pub ends_worn : (left0 left1 held : Option (List ℕ)) (journal : List ℕ) → IsIntake left0 left1 journal → replay_of journal ≡ Err stops.Worn → Ends Worn left0 left1 held held

@@ -8,17 +8,19 @@ use Rattle.ch_model.specs.declared.refusal.LineFault.TheVariants as faults
 use Rattle.ch_model.specs.World.{log_of}
 use Rattle.ch_model.specs.Journal.{journal_of, first_fault}
 use Rattle.ch_model.specs.Spelling.{log_text}
+use Rattle.ch_model.specs.Lawful.{IsPromised}
 use Rattle.ch_laws_one_node.specs.Lawful.{IsLawful}
 use Rattle.ch_journal.specs.declared.status.Status.{Status}
 use Rattle.ch_journal.specs.declared.status.Status.TheVariants.{Done, Usage, ReadFault, WriteFault, BadLine, TooLong, OutOfMemory, Worn}
 use Rattle.ch_replay.specs.Outside.{Appended, AppendedSome}
 
 -- The text that was appended is that of the log of the journal that these bytes spell, up to the first line that
--- is refused, and that log is lawful.
+-- is refused; that log is lawful, and all holds of it that the whole model promises.
 pub record IsLogged (bytes : List ℕ) (held0 held1 : Option (List ℕ)) : Type 0 where
   pub log : List Entry
   pub is_log : log_of (journal_of one_node bytes) ≡ Ok log
   pub lawful : IsLawful (journal_of one_node bytes) log
+  pub promised : IsPromised (journal_of one_node bytes) log
   pub appended : Appended (log_text log) held0 held1
 
 -- some first bytes of that text were appended
@@ -26,6 +28,7 @@ pub record IsLoggedInPart (bytes : List ℕ) (held0 held1 : Option (List ℕ)) :
   pub log : List Entry
   pub is_log : log_of (journal_of one_node bytes) ≡ Ok log
   pub lawful : IsLawful (journal_of one_node bytes) log
+  pub promised : IsPromised (journal_of one_node bytes) log
   pub appended : AppendedSome (log_text log) held0 held1
 
 -- What a status tells of the source's bytes and the sink's, where the source tells what it had. Done: no line is
