@@ -15,6 +15,7 @@ abbrev pub said_by : ProcName → ProcName → ℕ → ℕ → Entry → Option 
 said_by p q e k (Said by (Process to) epoch index mark body) = if is_the_said p q e k (Said by (Process to) epoch index mark body) then Some (record { mark = mark; body = body }) else None
 said_by p q e k entry = None
 
+-- the first of two that is there
 abbrev pub first_some : {A : Type 0} → Option A → Option A → Option A
 first_some None other = other
 first_some (Some x) other = Some x
@@ -34,6 +35,7 @@ abbrev pub entering : List Entry → ProcName → List ℕ → Entry → List (L
 entering log p word (Got by (Process to) epoch index (Some receiver)) = if same_process p receiver then body_of_mark word (message_of log by to epoch index) else []
 entering log p word entry = []
 
+-- the same by each entry of the rest of a log, in order
 abbrev pub entered_after : List Entry → ProcName → List ℕ → List Entry → List (List ℕ)
 entered_after log p word [] = []
 entered_after log p word (entry ∷ rest) = entering log p word entry ++ entered_after (log ++ entry ∷ []) p word rest

@@ -7,7 +7,7 @@ use Rattle.ch_model.specs.declared.line.What.{What}
 use Rattle.ch_model.specs.declared.line.What.TheVariants as lines
 use Rattle.ch_model.specs.NodeRoom.{longest}
 
--- a process of this node is made, sends to a process of it, takes a message, or ends
+-- the line has a process of this node made, or has one send to a process of it, take a message, or end
 abbrev pub IsOfNode : List ℕ → What → Type 0
 IsOfNode node (lines.Proc name) = name ≡ node
 IsOfNode node (lines.Send by (Process to) mark body) = (by.node ≡ node) × (to.node ≡ node)
@@ -15,6 +15,7 @@ IsOfNode node (lines.Recv by mark) = by.node ≡ node
 IsOfNode node (lines.End by) = by.node ≡ node
 IsOfNode node what = ⊥
 
+-- each of the lines does so
 abbrev pub AreOfNode : List ℕ → List Line → Type 0
 AreOfNode node [] = Unit {0}
 AreOfNode node (line ∷ rest) = IsOfNode node line.what × AreOfNode node rest
