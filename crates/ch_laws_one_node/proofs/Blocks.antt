@@ -94,7 +94,7 @@ receipts_each test holds before (x ∷ caused) all = both_hold (test before x) (
 
 -- ---- the last mark
 
-fold_end : {A B : Type 0} (f : B → A → B) (a : B) (xs : List A) (x : A) → fold f a (xs ++ x ∷ []) ≡ f (fold f a xs) x
+pub fold_end : {A B : Type 0} (f : B → A → B) (a : B) (xs : List A) (x : A) → fold f a (xs ++ x ∷ []) ≡ f (fold f a xs) x
 fold_end f a [] x = refl
 fold_end f a (y ∷ ys) x = fold_end f (f a y) ys x
 

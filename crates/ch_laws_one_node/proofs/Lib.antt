@@ -22,4 +22,5 @@ pub mod WholeVerdicts
 pub mod WholeAnswers
 pub mod Quiet
 pub mod WithoutSockets
+pub mod WholeSharper
 pub mod WholeLaw

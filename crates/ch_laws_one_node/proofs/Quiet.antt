@@ -17,6 +17,8 @@ use Rattle.ch_model.specs.AccountsCauses as causes
 use Rattle.ch_model.specs.Accounts as accounts
 use Rattle.ch_model.specs.Whole as whole
 use Rattle.ch_model.specs.WholeNotice as notices
+use Rattle.ch_model.specs.Sharper as sharper
+use Rattle.ch_model.specs.EndsToldLast as ends
 use Rattle.ch_laws_one_node.proofs.EntriesOf.{IsEntryOf}
 
 -- the entry passes each test of what one node doesn't do
@@ -69,6 +71,17 @@ pub record Quiet (journal : List JournalLine) (before : List Entry) (x : Entry) 
   pub is_noticed : notices.at_settled (notices.is_noticed journal) before x ≡ true
   pub is_replied : notices.at_settled (notices.is_replied journal) before x ≡ true
   pub is_doomed_by_entry : notices.at_settled (notices.is_doomed_by_entry journal) before x ≡ true
+  pub downs_break : (rest : List Entry) → sharper.downs_break journal before x rest ≡ true
+  pub settles_as_lines : sharper.settles_as_lines journal before x ≡ true
+  pub ends_unlabelled : (rest : List Entry) → sharper.ends_unlabelled journal before x rest ≡ true
+  pub answers_own_spawn : (rest : List Entry) → sharper.answers_own_spawn before x rest ≡ true
+  pub is_named_by_line : sharper.is_named_by_line journal before x ≡ true
+  pub is_next_port : sharper.is_next_port before x ≡ true
+  pub accepts_no_stranger : sharper.accepts_no_stranger journal before x ≡ true
+  pub opener_writes_up : sharper.opener_writes_up before x ≡ true
+  pub requests_by_number : sharper.requests_by_number journal before x ≡ true
+  pub shuts_down : (rest : List Entry) → sharper.shuts_down before x rest ≡ true
+  pub tells_end_last : ends.tells_end_last before x ≡ true
 
 pub quiet : (journal : List JournalLine) (node : List ℕ) (before : List Entry) (x : Entry) → IsEntryOf node x → Quiet journal before x
 quiet journal node before (Line number answer) of = record {
@@ -120,6 +133,17 @@ quiet journal node before (Line number answer) of = record {
   is_noticed = refl;
   is_replied = refl;
   is_doomed_by_entry = refl;
+  downs_break = λ rest. refl;
+  settles_as_lines = refl;
+  ends_unlabelled = λ rest. refl;
+  answers_own_spawn = λ rest. refl;
+  is_named_by_line = refl;
+  is_next_port = refl;
+  accepts_no_stranger = refl;
+  opener_writes_up = refl;
+  requests_by_number = refl;
+  shuts_down = λ rest. refl;
+  tells_end_last = refl;
 }
 quiet journal node before (Made process None None) of = record {
   breaks_as_node = refl;
@@ -170,6 +194,17 @@ quiet journal node before (Made process None None) of = record {
   is_noticed = refl;
   is_replied = refl;
   is_doomed_by_entry = refl;
+  downs_break = λ rest. refl;
+  settles_as_lines = refl;
+  ends_unlabelled = λ rest. refl;
+  answers_own_spawn = λ rest. refl;
+  is_named_by_line = refl;
+  is_next_port = refl;
+  accepts_no_stranger = refl;
+  opener_writes_up = refl;
+  requests_by_number = refl;
+  shuts_down = λ rest. refl;
+  tells_end_last = refl;
 }
 quiet journal node before (Said by (targets.Process to) epoch index mark body) of = record {
   breaks_as_node = refl;
@@ -220,6 +255,17 @@ quiet journal node before (Said by (targets.Process to) epoch index mark body) o
   is_noticed = refl;
   is_replied = refl;
   is_doomed_by_entry = refl;
+  downs_break = λ rest. refl;
+  settles_as_lines = refl;
+  ends_unlabelled = λ rest. refl;
+  answers_own_spawn = λ rest. refl;
+  is_named_by_line = refl;
+  is_next_port = refl;
+  accepts_no_stranger = refl;
+  opener_writes_up = refl;
+  requests_by_number = refl;
+  shuts_down = λ rest. refl;
+  tells_end_last = refl;
 }
 quiet journal node before (Got by (targets.Process to) epoch index (Some receiver)) of = record {
   breaks_as_node = refl;
@@ -270,6 +316,17 @@ quiet journal node before (Got by (targets.Process to) epoch index (Some receive
   is_noticed = refl;
   is_replied = refl;
   is_doomed_by_entry = refl;
+  downs_break = λ rest. refl;
+  settles_as_lines = refl;
+  ends_unlabelled = λ rest. refl;
+  answers_own_spawn = λ rest. refl;
+  is_named_by_line = refl;
+  is_next_port = refl;
+  accepts_no_stranger = refl;
+  opener_writes_up = refl;
+  requests_by_number = refl;
+  shuts_down = λ rest. refl;
+  tells_end_last = refl;
 }
 quiet journal node before (Took by None mark body) of = record {
   breaks_as_node = refl;
@@ -320,6 +377,17 @@ quiet journal node before (Took by None mark body) of = record {
   is_noticed = refl;
   is_replied = refl;
   is_doomed_by_entry = refl;
+  downs_break = λ rest. refl;
+  settles_as_lines = refl;
+  ends_unlabelled = λ rest. refl;
+  answers_own_spawn = λ rest. refl;
+  is_named_by_line = refl;
+  is_next_port = refl;
+  accepts_no_stranger = refl;
+  opener_writes_up = refl;
+  requests_by_number = refl;
+  shuts_down = λ rest. refl;
+  tells_end_last = refl;
 }
 quiet journal node before (Over process reason) of = record {
   breaks_as_node = refl;
@@ -370,5 +438,16 @@ quiet journal node before (Over process reason) of = record {
   is_noticed = refl;
   is_replied = refl;
   is_doomed_by_entry = refl;
+  downs_break = λ rest. refl;
+  settles_as_lines = refl;
+  ends_unlabelled = λ rest. refl;
+  answers_own_spawn = λ rest. refl;
+  is_named_by_line = refl;
+  is_next_port = refl;
+  accepts_no_stranger = refl;
+  opener_writes_up = refl;
+  requests_by_number = refl;
+  shuts_down = λ rest. refl;
+  tells_end_last = refl;
 }
 quiet journal node before x of = absurd of

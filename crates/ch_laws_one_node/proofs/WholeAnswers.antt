@@ -46,7 +46,7 @@ answered node journal before line done c = both_hold (answers.is_answered journa
 
 -- ---- what isn't a mark stands after a line that was done
 
-or_always : (b : Bool) → (b || true) ≡ true
+pub or_always : (b : Bool) → (b || true) ≡ true
 or_always true = refl
 or_always false = refl
 
@@ -64,7 +64,7 @@ of_done_lines node journal before line done c = by_answer (answer_over before li
 
 -- ---- a line that was done has its own entry first
 
-own_is : (journal : List JournalLine) (before : List Entry) (what : What) (own : Entry) → IsOwnEntry what own → is_own journal before what own ≡ true
+pub own_is : (journal : List JournalLine) (before : List Entry) (what : What) (own : Entry) → IsOwnEntry what own → is_own journal before what own ≡ true
 own_is journal before (lines.Proc node) (Made process None None) h = equal_bytes_are process.node node h
 own_is journal before (lines.Send by (targets.Process to) mark body) (Said sender (targets.Process receiver) epoch index word bytes) h =
     both_hold _ _ (both_hold _ _ (both_hold _ _ (same_self_is sender by h.0) (same_self_is receiver to h.1)) (equal_bytes_are word mark h.2)) (equal_bytes_are bytes body h.3)
@@ -110,7 +110,7 @@ feeds_nothing journal node before x old of lawful = refl
 
 -- ---- what only a line does is its own entry
 
-second_holds : (x z : Bool) → (x || true || z) ≡ true
+pub second_holds : (x z : Bool) → (x || true || z) ≡ true
 second_holds true z = refl
 second_holds false z = refl
 

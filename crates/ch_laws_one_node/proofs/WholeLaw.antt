@@ -10,6 +10,9 @@ use Rattle.ch_model.specs.declared.line.What.TheVariants.{Node}
 use Rattle.ch_model.specs.Logs as logs
 use Rattle.ch_model.specs.HasAnswers as answers
 use Rattle.ch_model.specs.Lawful.{IsPromised}
+use Rattle.ch_model.specs.Sharper.{IsSharper}
+use Rattle.ch_model.specs.Isolation.{IsolatesStrangers}
+use Rattle.ch_model.specs.EndsToldLast.{EndsToldLast}
 use Rattle.ch_one_node.specs.Node.{new_node}
 use Rattle.ch_one_node.specs.World.{◌>>=◌, log_from, log_of}
 use Rattle.ch_laws_one_node.specs.OneNode.{AreOfNode, IsOfOneNode, FitFrames}
@@ -23,6 +26,7 @@ use Rattle.ch_laws_one_node.proofs.Blocks.{Found, found_all, Passes, PassesBetwe
 use Rattle.ch_laws_one_node.proofs.WholeAnswers.{answered, of_done_lines, own_first, own_first_skips, settled_last, settled_last_skips, feeds_nothing, in_place, ends_caused, marks_are}
 use Rattle.ch_laws_one_node.proofs.Quiet.{quiet}
 use Rattle.ch_laws_one_node.proofs.WithoutSockets.{each_between_of, loses_no_name, got_within, got_unwritten, none_live, never_settles}
+use Rattle.ch_laws_one_node.proofs.WholeSharper.{made_by_line, got_next, isolated}
 use Rattle.ch_laws_one_node.proofs.Law.{lawful_log}
 
 of_parts : (node : List ℕ) (journal rest : List Line) (log : List Entry) → AreOfNode node rest → FitFrames rest → Found journal rest → filter_map answers.event_number journal ≡ filter_map answers.event_number rest → AreEntriesOf node log → IsLawful rest log → IsPromised journal log
@@ -154,6 +158,39 @@ of_parts node journal rest log of fits found same entries lawful = record {
   by_line_between : (test : List Entry → Entry → List Entry → Bool) → PassesBetween node journal test → SkipsPlain test → logs.each_between test log ≡ true
   by_line_between test passes skips = all_between node journal test passes skips rest found of fits [] log tt entries lawful.answers
 
+-- ---- the sharper clauses
+
+-- the log goes by the sharper clauses, keeps strangers apart, and tells ends last
+pub record GoesFurther (journal : List Line) (log : List Entry) : Type 0 where
+  pub sharper : IsSharper journal log
+  pub isolated : IsolatesStrangers journal log
+  pub told_last : EndsToldLast log
+
+sharper_of_parts : (node : List ℕ) (journal rest : List Line) (log : List Entry) → IsOfOneNode journal → AreOfNode node rest → FitFrames rest → Found journal rest → AreEntriesOf node log → IsLawful rest log → GoesFurther journal log
+sharper_of_parts node journal rest log one of fits found entries lawful = record {
+  sharper = record {
+    down_breaks = between _ (λ before x rest old of. (quiet journal node before x of).downs_break rest);
+    settle_as_lines = alone _ (λ before x of. (quiet journal node before x of).settles_as_lines);
+    unlabelled_ends = between _ (λ before x rest old of. (quiet journal node before x of).ends_unlabelled rest);
+    own_spawn_answered = between _ (λ before x rest old of. (quiet journal node before x of).answers_own_spawn rest);
+    made_by_line = all_blocks node journal _ (made_by_line node journal) rest found of fits [] log tt entries lawful.answers;
+    named_by_line = alone _ (λ before x of. (quiet journal node before x of).is_named_by_line);
+    next_port = alone _ (λ before x of. (quiet journal node before x of).is_next_port);
+    no_stranger_up = alone _ (λ before x of. (quiet journal node before x of).accepts_no_stranger);
+    opener_up_first = alone _ (λ before x of. (quiet journal node before x of).opener_writes_up);
+    target_number = alone _ (λ before x of. (quiet journal node before x of).requests_by_number);
+    got_at_once = got_next node rest of [] log tt entries lawful.entries lawful.answers;
+    shut_is_down = between _ (λ before x rest old of. (quiet journal node before x of).shuts_down rest);
+  };
+  isolated = each_of node _ (isolated journal node one) [] log tt entries lawful.entries;
+  told_last = alone _ (λ before x of. (quiet journal node before x of).tells_end_last);
+} where
+  alone : (test : List Entry → Entry → Bool) → ((before : List Entry) (x : Entry) → IsEntryOf node x → test before x ≡ true) → logs.each test log ≡ true
+  alone test holds = each_of node test (λ before x old of law. holds before x of) [] log tt entries lawful.entries
+
+  between : (test : List Entry → Entry → List Entry → Bool) → ((before : List Entry) (x : Entry) (rest : List Entry) → AreEntriesOf node before → IsEntryOf node x → test before x rest ≡ true) → logs.each_between test log ≡ true
+  between test holds = each_between_of node test holds [] log tt entries
+
 -- ---- a journal
 
 value_is : {A : Type 0} (x y : A) → ◌≡◌ {A = Result A Stop} (Ok x) (Ok y) → x ≡ y
@@ -174,3 +211,15 @@ by_first least number what rest log of fits rising is = absurd of
 pub lawful_of_one_node : (least : ℕ) (journal : List Line) (log : List Entry) → IsOfOneNode journal → FitFrames journal → AreNumbered least journal None → log_of journal ≡ Ok log → IsPromised journal log
 lawful_of_one_node least [] log of fits rising is = subst (λ l. IsPromised [] l) (value_is [] log is) (of_parts [] [] [] [] tt tt tt refl tt (record { entries = tt; answers = refl }))
 lawful_of_one_node least (line ∷ rest) log of fits rising is = by_first least line.number line.what rest log of fits rising is
+
+sharper_by_first : (least number : ℕ) (what : What) (rest : List Line) (log : List Entry) → IsOfOneNode (record { number = number; what = what } ∷ rest) → FitFrames (record { number = number; what = what } ∷ rest) → AreNumbered least (record { number = number; what = what } ∷ rest) None → log_of (record { number = number; what = what } ∷ rest) ≡ Ok log → GoesFurther (record { number = number; what = what } ∷ rest) log
+sharper_by_first least number (Node name address unique) rest log of fits rising is = sharper_of_parts name (record { number = number; what = Node name address unique } ∷ rest) rest log of of fits.1 (found_all least (record { number = number; what = Node name address unique } ∷ rest) rising).1
+    (entries_declared name address unique rest log of (log_from (Some (record { name = name; node = new_node address unique })) rest) refl is)
+    (record { entries = small.entries; answers = small.answers }) where
+      small : IsLawful (record { number = number; what = Node name address unique } ∷ rest) log
+      small = lawful_log (record { number = number; what = Node name address unique } ∷ rest) log of is
+sharper_by_first least number what rest log of fits rising is = absurd of
+
+pub sharper_of_one_node : (least : ℕ) (journal : List Line) (log : List Entry) → IsOfOneNode journal → FitFrames journal → AreNumbered least journal None → log_of journal ≡ Ok log → GoesFurther journal log
+sharper_of_one_node least [] log of fits rising is = subst (λ l. GoesFurther [] l) (value_is [] log is) (sharper_of_parts [] [] [] [] tt tt tt tt tt (record { entries = tt; answers = refl }))
+sharper_of_one_node least (line ∷ rest) log of fits rising is = sharper_by_first least line.number line.what rest log of fits rising is

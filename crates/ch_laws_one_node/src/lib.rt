@@ -14,6 +14,9 @@ ghost use Rattle.ch_model.specs.LinesBuilt.{one_node};
 ghost use Rattle.ch_one_node.specs.World.{log_of};
 ghost use Rattle.ch_laws_one_node.specs.Lawful.{IsLawful};
 ghost use Rattle.ch_model.specs.Lawful.{IsPromised};
+ghost use Rattle.ch_model.specs.Sharper.{IsSharper};
+ghost use Rattle.ch_model.specs.Isolation.{IsolatesStrangers};
+ghost use Rattle.ch_model.specs.EndsToldLast.{EndsToldLast};
 ghost use Rattle.ch_model.specs.World.{log_of as whole_log_of};
 ghost use Rattle.ch_laws_one_node.specs.OneNode.{IsOfOneNode, FitFrames};
 ghost use Rattle.ch_laws_one_node.specs.Places.{AreNumbered, IsFirstFault};
@@ -70,4 +73,14 @@ pub fn lawful()
 pub fn lawful_as_promised()
     ensures lines { (least : ℕ) (journal : List Line) (log : List Entry) → IsOfOneNode journal → FitFrames journal → AreNumbered least journal None → log_of journal ≡ Ok log → IsPromised journal log }
     ensures bytes { (bytes : List ℕ) (log : List Entry) → log_of (journal_of one_node bytes) ≡ Ok log → IsPromised (journal_of one_node bytes) log }
+{}
+
+/// The log of one node goes further than what is promised: by the sharper clauses, of which two have
+/// to do with one node, that a process which no spawn made is made by its line, and that what is said
+/// to a process that isn't over is got next. No stranger touches it, and no end is told before its time.
+pub fn sharper_clauses()
+    ensures sharper { (least : ℕ) (journal : List Line) (log : List Entry) → IsOfOneNode journal → FitFrames journal → AreNumbered least journal None → log_of journal ≡ Ok log → IsSharper journal log }
+    ensures isolated { (least : ℕ) (journal : List Line) (log : List Entry) → IsOfOneNode journal → FitFrames journal → AreNumbered least journal None → log_of journal ≡ Ok log → IsolatesStrangers journal log }
+    ensures told_last { (least : ℕ) (journal : List Line) (log : List Entry) → IsOfOneNode journal → FitFrames journal → AreNumbered least journal None → log_of journal ≡ Ok log → EndsToldLast log }
+    ensures bytes { (bytes : List ℕ) (log : List Entry) → log_of (journal_of one_node bytes) ≡ Ok log → IsSharper (journal_of one_node bytes) log × IsolatesStrangers (journal_of one_node bytes) log × EndsToldLast log }
 {}
