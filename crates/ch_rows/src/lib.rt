@@ -2,6 +2,4 @@
 #![tactic(auto)]
 
 #[cfg(test)]
-mod journal;
-#[cfg(test)]
 mod replay;

@@ -1,10 +1,10 @@
 //! Lines that are read, with their canonical texts; lines that are refused, with their kind and
 //! place; the texts of statuses.
 
-use ch_base::Text;
+use ch_base::OutOfMemory;
 use ch_journal::{JournalError, Reading, Status, put_line};
 use ch_model::{BadKind, Line};
-use std::alloc::{AllocError, Global};
+use std::alloc::Global;
 use std::process::Abort;
 use std::test::Fail;
 
@@ -180,17 +180,21 @@ fn refused_lines(rt: HostRuntime) {
     refuses(&rt, rt.alloc(), &NODE, 4, &NO_NUMBER_OR_NAME);
 }
 
-/// The canonical text of what a line says after these lines; no text for the header.
+/// Appends the canonical text of what a line says; none for the header.
+fn put_read(read: Option<Line>, out: &mut Vec<u8>) -> Result<(), OutOfMemory> {
+    match &read {
+        None => Ok(()),
+        Some(line) => put_line(line, out),
+    }
+}
+
+/// The canonical text of what a line says after these lines.
 fn canonical(alloc: Global, before: &[&[u8]], text: &[u8]) -> Result<Vec<u8>, JournalError> {
     let mut out = Vec::new(alloc);
-    match read_after(alloc, before, text)? {
-        None => {}
-        Some(line) => match put_line(&line, &mut out) {
-            Ok(()) => {}
-            Err(_) => return Err(JournalError::OutOfMemory),
-        },
+    match put_read(read_after(alloc, before, text)?, &mut out) {
+        Ok(()) => Ok(out),
+        Err(OutOfMemory) => Err(JournalError::OutOfMemory),
     }
-    Ok(out)
 }
 
 /// Each line is read after these lines, and its canonical text too.
