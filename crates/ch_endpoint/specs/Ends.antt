@@ -1,0 +1,17 @@
+-- An end of a socket that is closed.
+use Rattle.std.specs.Prelude.{ℕ, List, [], find, Option, Some, None}
+use Rattle.ch_model.specs.Stages.{Ended}
+use Rattle.ch_model.specs.HostState.{Socket}
+use Rattle.ch_model.specs.HostSteps.{is_socket, store_socket}
+
+-- the end is ended, and what was read of it is dropped
+abbrev pub ended : Socket → Socket
+ended socket = record socket { stage = Ended; since = [] }
+
+abbrev pub ended_one : Option Socket → List Socket → List Socket
+ended_one None sockets = sockets
+ended_one (Some socket) sockets = store_socket (ended socket) sockets
+
+-- the end of this number is ended among these
+abbrev pub ended_among : ℕ → List Socket → List Socket
+ended_among number sockets = ended_one (find (is_socket number) sockets) sockets

@@ -1,0 +1,6 @@
+pub mod Kept
+pub mod Stages
+pub mod Calls
+pub mod Places
+pub mod Waits
+pub mod Ends
