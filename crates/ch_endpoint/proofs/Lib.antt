@@ -1,2 +1,4 @@
 pub mod Tables
 pub mod Sends
+pub mod Heard
+pub mod Ended

@@ -3,4 +3,7 @@ pub mod Stages
 pub mod Calls
 pub mod Places
 pub mod Waits
+pub mod Users
+pub mod Dialing
+pub mod Opens
 pub mod Ends

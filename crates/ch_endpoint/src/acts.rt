@@ -2,17 +2,24 @@
 
 ghost use Rattle.std.specs.Prelude.{◌≡◌, ◌++◌, ◌∷◌, [], true, false, map, find, Some, None, Ok, Err, IfOk, OnOk};
 ghost use Rattle.ch_wire.specs.Spelling.{answer_spelling};
+ghost use Rattle.ch_base.specs.declared.event.Event.TheVariants as events;
 ghost use Rattle.ch_model.specs.declared.step.Step.TheVariants as steps;
-ghost use Rattle.ch_model.specs.HostSteps.{link_with};
+ghost use Rattle.ch_base.specs.Addresses.{address_text};
+ghost use Rattle.ch_link.specs.declared.LinkAct.TheVariants as acts;
+ghost use Rattle.ch_model.specs.Greater.{is_greater as is_greater_of};
+ghost use Rattle.ch_model.specs.HostState.{Link};
+ghost use Rattle.ch_model.specs.HostSteps.{link_with, own_address};
+ghost use Rattle.ch_endpoint.specs.Dialing.{dials, is_want_in};
 ghost use Rattle.ch_model.specs.HostWrites.{end_socket as end_socket_of, leaves as leaves_of, goes_down as goes_down_of, answers_and_leaves as answers_and_leaves_of, flushes_to as flushes_to_of, frame_step as frame_step_of, leaves_off as leaves_off_of};
-ghost use Rattle.ch_model.specs.HostLinks.{accepts_on as accepts_on_of, fails_with as fails_with_of, says_closed as says_closed_of, raised as raised_of, acknowledged as acknowledged_of, asked_on as asked_on_of, does_act as does_act_of};
+ghost use Rattle.ch_model.specs.HostLinks.{accepts_on as accepts_on_of, says_closed as says_closed_of, raised as raised_of, acknowledged as acknowledged_of, asked_on as asked_on_of, does_act as does_act_of, hears as hears_of};
 
 use crate::link::{Waiting, frame_step, frame_steps};
 use crate::state::State;
 use ch_base::{Address, Event, OutOfMemory, Text, Why};
-use ch_link::{LinkAct, LinkIn, LinkState};
+use ch_link::{LinkAct, LinkIn, LinkState, step};
 use ch_model::{Step, Weight};
 use ch_wire::{Answer, Frame, answer_bytes};
+use itoa::Buffer;
 use std::alloc::Global;
 
 /// One step alone.
@@ -80,7 +87,8 @@ impl State {
 
     /// An end that wasn't up is closed.
     pub(crate) fn leaves(&mut self, sock: u64) -> Result<Vec<Step>, OutOfMemory>
-        ensures { IfOk result (λ steps. leaves_of sock self.old ≡ Ok (steps.items, self.new)) }
+        ensures does { IfOk result (λ steps. leaves_of sock self.old ≡ Ok (steps.items, self.new)) }
+        ensures links { OnOk result (self.new.links ≡ self.old.links) }
     {
         self.sockets.end(sock);
         one(self.alloc(), Step::Left { sock })
@@ -88,7 +96,8 @@ impl State {
 
     /// An end that was up is closed.
     fn goes_down(&mut self, sock: u64) -> Result<Vec<Step>, OutOfMemory>
-        ensures { IfOk result (λ steps. goes_down_of sock self.old ≡ Ok (steps.items, self.new)) }
+        ensures does { IfOk result (λ steps. goes_down_of sock self.old ≡ Ok (steps.items, self.new)) }
+        ensures links { OnOk result (self.new.links ≡ self.old.links) }
     {
         self.sockets.end(sock);
         one(self.alloc(), Step::Down { sock })
@@ -126,7 +135,7 @@ impl State {
 
     /// The node is told that its link with the peer has failed.
     fn fails_with(&self, end: u32, peer: &Address, why: Why) -> Result<Vec<Step>, OutOfMemory>
-        ensures { IfOk result (λ steps. fails_with_of (link_with self.now end peer.now) why self.now ≡ Ok (steps.items, self.now)) }
+        ensures { IfOk result (λ told. told.items ≡ steps.Broke end peer.now why ∷ steps.Post end (events.ConnectionLost peer.now why) ∷ []) }
     {
         let broke = Step::Broke {
             end,
@@ -174,7 +183,8 @@ impl State {
 
     /// The socket that the link was up on goes down, and one that it was dialing is left.
     fn leaves_off(&mut self, old: LinkState) -> Result<Vec<Step>, OutOfMemory>
-        ensures { IfOk result (λ steps. leaves_off_of old self.old ≡ Ok (steps.items, self.new)) }
+        ensures does { IfOk result (λ steps. leaves_off_of old self.old ≡ Ok (steps.items, self.new)) }
+        ensures links { OnOk result (self.new.links ≡ self.old.links) }
     {
         match old {
             LinkState::Up { sock, .. } => self.goes_down(sock),
@@ -199,5 +209,127 @@ impl State {
             }
             _ => Ok(Vec::new(self.alloc())),
         }
+    }
+
+    /// A link that has failed: its socket is left, what it kept is forgotten, and the node is told.
+    #[tactic(auto, using(crate::proofs::Heard::fails_done))]
+    fn fails(
+        &mut self,
+        end: u32,
+        peer: &Address,
+        old: LinkState,
+        why: Why,
+    ) -> Result<Vec<Step>, OutOfMemory>
+        ensures { (input : LinkIn) → IfOk result (λ steps. does_act_of (acts.Fail why) old input (link_with self.old end peer.now) self.old ≡ Ok (steps.items, self.new)) }
+    {
+        let first = self.leaves_off(old)?;
+        self.links.forget(end, peer)?;
+        let told = self.fails_with(end, peer, why)?;
+        followed(first, told)
+    }
+
+    /// A link that is shut: that is said on the socket that it was up on, its socket is left, and what it kept
+    /// is forgotten.
+    #[tactic(auto, using(crate::proofs::Heard::shuts_done))]
+    fn shuts(&mut self, end: u32, peer: &Address, old: LinkState) -> Result<Vec<Step>, OutOfMemory>
+        ensures { (input : LinkIn) → IfOk result (λ steps. does_act_of acts.Close old input (link_with self.old end peer.now) self.old ≡ Ok (steps.items, self.new)) }
+    {
+        let said = self.says_closed(old)?;
+        let left = self.leaves_off(old)?;
+        self.links.forget(end, peer)?;
+        followed(said, left)
+    }
+
+    /// The link leaves its own socket, and takes the one that asks.
+    #[tactic(auto, using(crate::proofs::Heard::accepts_done))]
+    fn leaves_and_accepts(
+        &mut self,
+        own: u64,
+        input: LinkIn,
+        end: u32,
+        peer: &Address,
+    ) -> Result<Vec<Step>, OutOfMemory>
+        ensures { (old : LinkState) → IfOk result (λ steps. does_act_of (acts.LeaveAndAccept own) old input (link_with self.old end peer.now) self.old ≡ Ok (steps.items, self.new)) }
+    {
+        let first = self.leaves(own)?;
+        followed(first, self.accepts_on(asked_on(input), end, peer)?)
+    }
+
+    /// The socket that asks is crossed, and the old one is probed.
+    fn crosses_and_probes(&mut self, up: u64, input: LinkIn) -> Result<Vec<Step>, OutOfMemory>
+        ensures { (old : LinkState) (link : Link) → IfOk result (λ steps. does_act_of (acts.CrossAndProbe up) old input link self.old ≡ Ok (steps.items, self.new)) }
+    {
+        let first = self.answers_and_leaves(asked_on(input), Answer::Crossed)?;
+        let item = Waiting {
+            frame: Frame::Probe,
+            weight: Weight::Free,
+        };
+        followed(first, bare_step(self.alloc(), up, item)?)
+    }
+
+    /// The act of the table, of a link that is in its new state already, and was in that old one.
+    fn does_act(
+        &mut self,
+        end: u32,
+        peer: &Address,
+        act: LinkAct,
+        old: LinkState,
+        input: LinkIn,
+    ) -> Result<Vec<Step>, OutOfMemory>
+        requires { dials act ≡ false }
+        ensures { IfOk result (λ steps. does_act_of act old input (link_with self.old end peer.now) self.old ≡ Ok (steps.items, self.new)) }
+    {
+        match act {
+            LinkAct::Nothing | LinkAct::Dial => Ok(Vec::new(self.alloc())),
+            LinkAct::Accept => self.accepts_on(asked_on(input), end, peer),
+            LinkAct::Cross => self.answers_and_leaves(asked_on(input), Answer::Crossed),
+            LinkAct::LeaveAndAccept { own } => self.leaves_and_accepts(own, input, end, peer),
+            LinkAct::CrossAndProbe { old: up } => self.crosses_and_probes(up, input),
+            LinkAct::Raise => self.raised(self.state_with(end, peer), end, peer),
+            LinkAct::Leave { own } => self.leaves(own),
+            LinkAct::Fail(why) => self.fails(end, peer, old, why),
+            LinkAct::Acknowledge => self.acknowledged(self.state_with(end, peer)),
+            LinkAct::Close => self.shuts(end, peer, old),
+        }
+    }
+
+    /// The text of the address of an endpoint.
+    fn own_text(&self, end: u32) -> Result<Vec<u8>, OutOfMemory>
+        ensures { IfOk result (λ text. text.items ≡ address_text (own_address self.now end)) }
+    {
+        let mut digits = Buffer::new();
+        let mut text = Vec::from_slice(self.alloc(), self.host.as_slice())?;
+        text.push(b':')?;
+        text.extend_from_slice(digits.format(self.port).as_bytes())?;
+        text.push(b':')?;
+        text.extend_from_slice(digits.format(end).as_bytes())?;
+        Ok(text)
+    }
+
+    /// Whether the address of an endpoint is greater than its peer's.
+    fn is_greater(&self, end: u32, peer: &Address) -> Result<bool, OutOfMemory>
+        ensures { IfOk result (λ greater. greater ≡ is_greater_of (own_address self.now end) peer.now) }
+    {
+        let own = self.own_text(end)?;
+        let text = peer.text()?;
+        Ok(own.as_slice().cmp(text.as_slice()).is_gt())
+    }
+
+    /// The link of an endpoint with a peer hears an input: the table gives its new state and the act.
+    #[tactic(auto, using(crate::proofs::Heard::hears_done))]
+    pub(crate) fn hears(
+        &mut self,
+        end: u32,
+        peer: &Address,
+        input: LinkIn,
+    ) -> Result<Vec<Step>, OutOfMemory>
+        requires { is_want_in input ≡ false }
+        ensures { IfOk result (λ steps. hears_of input (link_with self.old end peer.now) self.old ≡ Ok (steps.items, self.new)) }
+    {
+        let old = self.state_with(end, peer);
+        let greater = self.is_greater(end, peer)?;
+        let (now, act) = step(old, input, greater);
+        self.links.set_state(end, peer, now)?;
+        self.does_act(end, peer, act, old, input)
     }
 }

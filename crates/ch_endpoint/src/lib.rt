@@ -6,6 +6,7 @@
 
 mod acts;
 mod endpoint;
+mod events;
 mod host;
 mod link;
 mod links;

@@ -1,10 +1,12 @@
 //! A host's end of a socket.
 
-ghost use Rattle.std.specs.Prelude.{◌≡◌, [], ◌++◌, None, Some};
+ghost use Rattle.std.specs.Prelude.{◌≡◌, [], ◌++◌, None, Some, IfOk};
 ghost use Rattle.ch_model.specs.HostLinks.{dialed};
+ghost use Rattle.ch_model.specs.Stages.{is_open as is_open_of, is_pending as is_pending_of};
+ghost use Rattle.ch_model.specs.Host.{accepted};
 ghost use Rattle.ch_endpoint.specs.Ends.{ended};
 
-use ch_base::{Address, Text};
+use ch_base::{Address, OutOfMemory, Text};
 use ch_reader::Expected;
 use std::alloc::Global;
 use std::marker::Model;
@@ -60,5 +62,49 @@ impl Socket {
     {
         self.standing = Standing::Ended;
         self.since.clear();
+    }
+
+    /// A socket that was accepted.
+    pub(crate) fn accepted(alloc: Global, sock: u64, peer_host: Text) -> Socket
+        ensures { result ≡ accepted sock peer_host }
+    {
+        Socket {
+            number: sock,
+            peer_host: Some(peer_host),
+            standing: Standing::Open,
+            user: None,
+            expected: Expected::Request,
+            since: Vec::new(alloc),
+        }
+    }
+
+    /// The endpoint and the peer for whom it stands.
+    pub(crate) fn user(&self) -> Result<Option<(u32, Address)>, OutOfMemory>
+        ensures { IfOk result (λ user. user ≡ self.now.user) }
+    {
+        match &self.user {
+            None => Ok(None),
+            Some((end, peer)) => Ok(Some((*end, peer.copy()?))),
+        }
+    }
+
+    /// Whether it is open.
+    pub(crate) fn is_open(&self) -> bool
+        ensures { result ≡ is_open_of self.now.stage }
+    {
+        match self.standing {
+            Standing::Open => true,
+            _ => false,
+        }
+    }
+
+    /// Whether it is dialed and not open yet.
+    pub(crate) fn is_pending(&self) -> bool
+        ensures { result ≡ is_pending_of self.now.stage }
+    {
+        match self.standing {
+            Standing::Pending => true,
+            _ => false,
+        }
     }
 }

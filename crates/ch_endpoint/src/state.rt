@@ -1,15 +1,18 @@
 //! What a host does at each call, as steps on its endpoints, links and sockets.
 
-ghost use Rattle.std.specs.Prelude.{◌≡◌, ◌<◌, ◌&&◌, ◌++◌, ◌∷◌, [], true, false, find, map, length, nat_le, Ok, Err, IfOk, OnOk, OnErr};
+ghost use Rattle.std.specs.Prelude.{◌≡◌, ◌<◌, ◌&&◌, ◌++◌, ◌∷◌, [], true, false, find, map, length, nat_le, Ok, Err, MatchResult, IfOk, IfErr, OnOk, OnErr};
 ghost use Rattle.std.specs.List.{list_any};
 ghost use Rattle.ch_model.specs.HostSteps.{is_endpoint as is_endpoint_of, is_open_endpoint, link_with};
 ghost use Rattle.ch_model.specs.HostWrites.{is_up as is_up_of, is_counted, counted_in, puts as puts_of};
 ghost use Rattle.ch_model.specs.HostLinks.{most_dials};
-ghost use Rattle.ch_model.specs.HostCalls.{host_new, host_open, host_room, host_timer_runs, wants as wants_of};
+ghost use Rattle.ch_model.specs.HostCalls.{host_new, host_open, host_room, host_timer_runs, host_connect, wants as wants_of, puts_and_wants as puts_and_wants_of};
+ghost use Rattle.ch_light.specs.Ids.{IsFree};
+ghost use Rattle.ch_endpoint.specs.Calls.{Fails, KeepsBut};
+ghost use Rattle.ch_endpoint.specs.Opens.{opened_of};
 ghost use Rattle.ch_link.specs.declared.LinkState.TheVariants.{Idle};
 ghost use Rattle.ch_endpoint.specs.Places.{is_idle as is_idle_of};
 
-use crate::acts::one;
+use crate::acts::{followed, one};
 use crate::endpoint::Endpoint;
 use crate::link::{Waiting, frame_step};
 use crate::links::Links;
@@ -17,7 +20,8 @@ use crate::socket::Socket;
 use crate::sockets::Sockets;
 use ch_base::{Address, OutOfMemory, Room, Text};
 use ch_link::LinkState;
-use ch_model::Step;
+use ch_model::{EndError, Step, Weight};
+use ch_wire::Frame;
 use std::alloc::Global;
 use std::marker::Model;
 
@@ -108,7 +112,7 @@ impl State {
     }
 
     /// How the link of an endpoint with a peer stands.
-    fn state_with(&self, end: u32, peer: &Address) -> LinkState
+    pub(crate) fn state_with(&self, end: u32, peer: &Address) -> LinkState
         ensures { result ≡ (link_with self.now end peer.now).state }
     {
         match self.links.get(end, peer) {
@@ -185,6 +189,7 @@ impl State {
     }
 
     /// The link of an endpoint with a peer wants a socket, where it has none.
+    #[tactic(auto, using(crate::proofs::Sends::wants_still))]
     fn wants(&mut self, end: u32, peer: &Address) -> Result<Vec<Step>, OutOfMemory>
         requires { (is_idle_of (link_with self.old end peer.now).state && nat_le most_dials self.old.dials) ≡ false }
         ensures { IfOk result (λ steps. wants_of end peer.now self.old ≡ Ok (steps.items, self.new)) }
@@ -198,20 +203,93 @@ impl State {
     }
 
     /// An item of the link is written at once where the link is up, and else waits.
+    #[tactic(auto, using(crate::proofs::Sends::puts_up))]
     fn puts(&mut self, end: u32, peer: &Address, item: Waiting) -> Result<Vec<Step>, OutOfMemory>
         requires { is_counted item.1 ≡ true → is_up_of (link_with self.old end peer.now).state ≡ false → counted_in (link_with self.old end peer.now) < 4096 }
-        ensures { IfOk result (λ steps. puts_of item (link_with self.old end peer.now) self.old ≡ Ok (steps.items, self.new)) }
+        ensures does { IfOk result (λ steps. puts_of item (link_with self.old end peer.now) self.old ≡ Ok (steps.items, self.new)) }
+        ensures state { OnOk result ((link_with self.new end peer.now).state ≡ (link_with self.old end peer.now).state) }
+        ensures dials { OnOk result (self.new.dials ≡ self.old.dials) }
     {
         match self.state_with(end, peer) {
             LinkState::Up { sock, .. } => {
                 let step = frame_step(self.alloc(), sock, &item)?;
                 one(self.alloc(), step)
             }
-            _ => {
-                self.links.wait(end, peer, item)?;
-                Ok(Vec::new(self.alloc()))
+            LinkState::Idle | LinkState::Dialing { .. } | LinkState::AwaitOther => {
+                self.waits(end, peer, item)
             }
         }
+    }
+
+    /// An item waits for a link that isn't up.
+    #[tactic(auto, using(crate::proofs::Sends::puts_wait, crate::proofs::Sends::waiting_stands))]
+    fn waits(&mut self, end: u32, peer: &Address, item: Waiting) -> Result<Vec<Step>, OutOfMemory>
+        requires up { is_up_of (link_with self.old end peer.now).state ≡ false }
+        requires room { is_counted item.1 ≡ true → counted_in (link_with self.old end peer.now) < 4096 }
+        ensures does { IfOk result (λ steps. puts_of item (link_with self.old end peer.now) self.old ≡ Ok (steps.items, self.new)) }
+        ensures state { OnOk result ((link_with self.new end peer.now).state ≡ (link_with self.old end peer.now).state) }
+        ensures dials { OnOk result (self.new.dials ≡ self.old.dials) }
+    {
+        self.links.wait(end, peer, item)?;
+        Ok(Vec::new(self.alloc()))
+    }
+
+    /// An item of a link is put, and the link wants a socket.
+    #[tactic(auto, using(crate::proofs::Sends::puts_then_wants))]
+    fn puts_and_wants(
+        &mut self,
+        end: u32,
+        peer: &Address,
+        item: Waiting,
+    ) -> Result<Vec<Step>, OutOfMemory>
+        requires room { is_counted item.1 ≡ true → is_up_of (link_with self.old end peer.now).state ≡ false → counted_in (link_with self.old end peer.now) < 4096 }
+        requires worn { (is_idle_of (link_with self.old end peer.now).state && nat_le most_dials self.old.dials) ≡ false }
+        ensures { IfOk result (λ steps. puts_and_wants_of item (link_with self.old end peer.now) self.old ≡ Ok (steps.items, self.new)) }
+    {
+        let steps = self.puts(end, peer, item)?;
+        followed(steps, self.wants(end, peer)?)
+    }
+
+    /// An endpoint opens a connection to a peer.
+    pub(crate) fn connect(
+        &mut self,
+        end: u32,
+        peer: &Address,
+        conn: u64,
+    ) -> Result<Vec<Step>, EndError>
+        requires { IsFree (link_with self.old end peer.now).given conn }
+        ensures does { MatchResult result (λ steps. host_connect self.old end peer.now conn ≡ Ok (steps.items, self.new)) (λ e. Fails e (host_connect self.old end peer.now conn)) }
+        ensures err { IfErr result (λ e. KeepsBut self.old self.new e) }
+    {
+        if !self.is_open(end) {
+            return Err(EndError::NoEndPoint);
+        }
+        if self.is_spent(end, peer) {
+            return Err(EndError::Spent);
+        }
+        if self.is_worn(end, peer) {
+            return Err(EndError::Worn);
+        }
+        match self.opens(end, peer, conn) {
+            Ok(steps) => Ok(steps),
+            Err(_) => Err(EndError::OutOfMemory),
+        }
+    }
+
+    /// A connection gets the next id of a link, and that is put.
+    #[tactic(auto, using(crate::proofs::Sends::opens_done, crate::proofs::Sends::worn_kept))]
+    fn opens(&mut self, end: u32, peer: &Address, conn: u64) -> Result<Vec<Step>, OutOfMemory>
+        requires free { IsFree (link_with self.old end peer.now).given conn }
+        requires room { nat_le 65536 (length (link_with self.old end peer.now).given) ≡ false }
+        requires worn { (is_idle_of (link_with self.old end peer.now).state && nat_le most_dials self.old.dials) ≡ false }
+        ensures { IfOk result (λ steps. opened_of (link_with self.old end peer.now) conn self.old ≡ Ok (steps.items, self.new)) }
+    {
+        let id = self.links.give(end, peer, conn)?;
+        let item = Waiting {
+            frame: Frame::Created(id),
+            weight: Weight::Free,
+        };
+        self.puts_and_wants(end, peer, item)
     }
 }
 
