@@ -1,5 +1,6 @@
 -- What a link does when it hears an input, in the parts that the code makes of it.
-use Rattle.std.proofs.Common.{◌≡◌, ℕ, Bool, true, false, List, [], ◌∷◌, ◌++◌, find, Option, Some, None, Result, Ok, Err, refl, ap, sym, ◌∙◌, append-nil}
+use Rattle.std.proofs.Common.{◌≡◌, ℕ, Bool, true, false, List, [], ◌∷◌, ◌++◌, find, Option, Some, None, Result, Ok, Err, refl, ap, sym, ◌∙◌}
+use Rattle.std.proofs.lemmas.List.{append-nil}
 use Rattle.ch_base.specs.declared.address.Address.{Address}
 use Rattle.ch_base.specs.declared.event.Why.{Why}
 use Rattle.ch_base.specs.declared.event.Event.TheVariants as events
@@ -8,6 +9,9 @@ use Rattle.ch_link.specs.Table.{step_of}
 use Rattle.ch_link.specs.declared.LinkState.{LinkState}
 use Rattle.ch_link.specs.declared.LinkState.TheVariants.{Idle, Dialing, AwaitOther, Up}
 use Rattle.ch_link.specs.declared.LinkIn.{LinkIn}
+use Rattle.ch_link.specs.declared.LinkIn.TheVariants.{Want, Asked, Answered, Gone, EndClosed, Probe, Ack, Late, Shut}
+use Rattle.ch_link.specs.declared.LinkAnswer.TheVariants.{Accepted, Invalid, Crossed, Mismatch}
+use Rattle.ch_endpoint.specs.Dialing.{dials, is_want_in}
 use Rattle.ch_link.specs.declared.LinkAct.{LinkAct}
 use Rattle.ch_link.specs.declared.LinkAct.TheVariants as acts
 use Rattle.ch_model.specs.declared.step.Step.{Step}
@@ -48,10 +52,10 @@ shuts_done end peer old input host left after said first says goes same now =
     then_done (says_closed old host then leaves_off old) (λ left. Ok ([], with_link (forgetting link) left)) (said ++ first) [] left after (then_done (says_closed old host) (leaves_off old) said first host left says goes) rest ∙ ap (λ (ss : List Step). Ok (ss, after)) (append-nil (said ++ first))
 
 -- a link that leaves its own socket and takes the one that asks
-pub accepts_done : (end : ℕ) (peer : Address) (own : ℕ) (old : LinkState) (input : LinkIn) (host left after : HostState) (first more : List Step) → leaves own host ≡ Ok (first, left) → left.links ≡ host.links → accepts_on (asked_on input) (link_with left end peer) left ≡ Ok (more, after) → does_act (acts.LeaveAndAccept own) old input (link_with host end peer) host ≡ Ok (first ++ more, after)
-accepts_done end peer own old input host left after first more goes same takes =
+pub accepts_done : (end : ℕ) (peer : Address) (own sock : ℕ) (old : LinkState) (input : LinkIn) (host left after : HostState) (first more : List Step) → sock ≡ asked_on input → leaves own host ≡ Ok (first, left) → left.links ≡ host.links → accepts_on sock (link_with left end peer) left ≡ Ok (more, after) → does_act (acts.LeaveAndAccept own) old input (link_with host end peer) host ≡ Ok (first ++ more, after)
+accepts_done end peer own sock old input host left after first more asked goes same takes =
     let link : Link = link_with host end peer in
-    let rest : accepts_on (asked_on input) link left ≡ Ok (more, after) = ap (λ l. accepts_on (asked_on input) l left) (sym (same_link end peer host left same)) ∙ takes in
+    let rest : accepts_on (asked_on input) link left ≡ Ok (more, after) = (λ i. accepts_on (sym asked i) (sym (same_link end peer host left same) i) left) ∙ takes in
     then_done (leaves own host) (accepts_on (asked_on input) link) first more left after goes rest
 
 -- a link hears an input
@@ -65,3 +69,72 @@ hears_done end peer input host after state now act greater done s g t a d =
     let act_now : does_act act state input (record link { state = now }) (with_link (record link { state = now }) host) ≡ Ok done =
     (λ i. does_act act state input (sym stored i) (sym a i)) ∙ d in
     (λ i. does_act (told i).1 (sym s i) input (record link { state = (told i).0 }) (with_link (record link { state = (told i).0 }) host)) ∙ act_now
+
+-- the host with its links so
+pub with_links : (f : Link → Link) (end : ℕ) (peer : Address) (inside left : HostState) (links : List Link) → inside ≡ left → links ≡ store_link (f (link_or_new end peer (find (is_link end peer) inside.links))) inside.links → record inside { links = links } ≡ with_link (f (link_with left end peer)) left
+with_links f end peer inside left links same e = ap (λ (ls : List Link). record inside { links = ls }) e ∙ ap (λ h. with_link (f (link_with h end peer)) h) same
+
+-- only what wants a socket dials
+pub never_dials : (state : LinkState) (input : LinkIn) (greater : Bool) → is_want_in input ≡ false → dials (step_of state input greater).1 ≡ false
+unfolding step_of
+never_dials Idle (Want n) g e = absurd cc
+never_dials (Dialing d) (Want n) g e = absurd cc
+never_dials AwaitOther (Want n) g e = absurd cc
+never_dials (Up u false) (Want n) g e = absurd cc
+never_dials (Up u true) (Want n) g e = absurd cc
+never_dials Idle (Asked s) g e = refl
+never_dials (Dialing d) (Asked s) true e = refl
+never_dials (Dialing d) (Asked s) false e = refl
+never_dials AwaitOther (Asked s) g e = refl
+never_dials (Up u false) (Asked s) g e = refl
+never_dials (Up u true) (Asked s) g e = refl
+never_dials Idle (Answered Accepted) g e = refl
+never_dials (Dialing d) (Answered Accepted) g e = refl
+never_dials AwaitOther (Answered Accepted) g e = refl
+never_dials (Up u false) (Answered Accepted) g e = refl
+never_dials (Up u true) (Answered Accepted) g e = refl
+never_dials Idle (Answered Invalid) g e = refl
+never_dials (Dialing d) (Answered Invalid) g e = refl
+never_dials AwaitOther (Answered Invalid) g e = refl
+never_dials (Up u false) (Answered Invalid) g e = refl
+never_dials (Up u true) (Answered Invalid) g e = refl
+never_dials Idle (Answered Crossed) g e = refl
+never_dials (Dialing d) (Answered Crossed) g e = refl
+never_dials AwaitOther (Answered Crossed) g e = refl
+never_dials (Up u false) (Answered Crossed) g e = refl
+never_dials (Up u true) (Answered Crossed) g e = refl
+never_dials Idle (Answered Mismatch) g e = refl
+never_dials (Dialing d) (Answered Mismatch) g e = refl
+never_dials AwaitOther (Answered Mismatch) g e = refl
+never_dials (Up u false) (Answered Mismatch) g e = refl
+never_dials (Up u true) (Answered Mismatch) g e = refl
+never_dials Idle Gone g e = refl
+never_dials (Dialing d) Gone g e = refl
+never_dials AwaitOther Gone g e = refl
+never_dials (Up u false) Gone g e = refl
+never_dials (Up u true) Gone g e = refl
+never_dials Idle EndClosed g e = refl
+never_dials (Dialing d) EndClosed g e = refl
+never_dials AwaitOther EndClosed g e = refl
+never_dials (Up u false) EndClosed g e = refl
+never_dials (Up u true) EndClosed g e = refl
+never_dials Idle Probe g e = refl
+never_dials (Dialing d) Probe g e = refl
+never_dials AwaitOther Probe g e = refl
+never_dials (Up u false) Probe g e = refl
+never_dials (Up u true) Probe g e = refl
+never_dials Idle Ack g e = refl
+never_dials (Dialing d) Ack g e = refl
+never_dials AwaitOther Ack g e = refl
+never_dials (Up u false) Ack g e = refl
+never_dials (Up u true) Ack g e = refl
+never_dials Idle Late g e = refl
+never_dials (Dialing d) Late g e = refl
+never_dials AwaitOther Late g e = refl
+never_dials (Up u false) Late g e = refl
+never_dials (Up u true) Late g e = refl
+never_dials Idle Shut g e = refl
+never_dials (Dialing d) Shut g e = refl
+never_dials AwaitOther Shut g e = refl
+never_dials (Up u false) Shut g e = refl
+never_dials (Up u true) Shut g e = refl

@@ -7,7 +7,6 @@ ghost use Rattle.ch_model.specs.declared.step.Step.TheVariants as steps;
 ghost use Rattle.ch_base.specs.Addresses.{address_text};
 ghost use Rattle.ch_link.specs.declared.LinkAct.TheVariants as acts;
 ghost use Rattle.ch_model.specs.Greater.{is_greater as is_greater_of};
-ghost use Rattle.ch_model.specs.HostState.{Link};
 ghost use Rattle.ch_model.specs.HostSteps.{link_with, own_address};
 ghost use Rattle.ch_endpoint.specs.Dialing.{dials, is_want_in};
 ghost use Rattle.ch_model.specs.HostWrites.{end_socket as end_socket_of, leaves as leaves_of, goes_down as goes_down_of, answers_and_leaves as answers_and_leaves_of, flushes_to as flushes_to_of, frame_step as frame_step_of, leaves_off as leaves_off_of};
@@ -212,52 +211,68 @@ impl State {
     }
 
     /// A link that has failed: its socket is left, what it kept is forgotten, and the node is told.
-    #[tactic(auto, using(crate::proofs::Heard::fails_done))]
     fn fails(
         &mut self,
         end: u32,
         peer: &Address,
         old: LinkState,
         why: Why,
+        input: LinkIn,
     ) -> Result<Vec<Step>, OutOfMemory>
-        ensures { (input : LinkIn) → IfOk result (λ steps. does_act_of (acts.Fail why) old input (link_with self.old end peer.now) self.old ≡ Ok (steps.items, self.new)) }
+        ensures { IfOk result (λ steps. does_act_of (acts.Fail why) old input (link_with self.old end peer.now) self.old ≡ Ok (steps.items, self.new)) }
     {
         let first = self.leaves_off(old)?;
         self.links.forget(end, peer)?;
         let told = self.fails_with(end, peer, why)?;
-        followed(first, told)
+        let steps = followed(first, told)?;
+        Ok(steps)
     }
 
     /// A link that is shut: that is said on the socket that it was up on, its socket is left, and what it kept
     /// is forgotten.
-    #[tactic(auto, using(crate::proofs::Heard::shuts_done))]
-    fn shuts(&mut self, end: u32, peer: &Address, old: LinkState) -> Result<Vec<Step>, OutOfMemory>
-        ensures { (input : LinkIn) → IfOk result (λ steps. does_act_of acts.Close old input (link_with self.old end peer.now) self.old ≡ Ok (steps.items, self.new)) }
+    fn shuts(
+        &mut self,
+        end: u32,
+        peer: &Address,
+        old: LinkState,
+        input: LinkIn,
+    ) -> Result<Vec<Step>, OutOfMemory>
+        ensures { IfOk result (λ steps. does_act_of acts.Close old input (link_with self.old end peer.now) self.old ≡ Ok (steps.items, self.new)) }
     {
         let said = self.says_closed(old)?;
         let left = self.leaves_off(old)?;
         self.links.forget(end, peer)?;
-        followed(said, left)
+        let steps = followed(said, left)?;
+        Ok(steps)
     }
 
     /// The link leaves its own socket, and takes the one that asks.
-    #[tactic(auto, using(crate::proofs::Heard::accepts_done))]
     fn leaves_and_accepts(
         &mut self,
-        own: u64,
-        input: LinkIn,
         end: u32,
         peer: &Address,
+        own: u64,
+        old: LinkState,
+        input: LinkIn,
     ) -> Result<Vec<Step>, OutOfMemory>
-        ensures { (old : LinkState) → IfOk result (λ steps. does_act_of (acts.LeaveAndAccept own) old input (link_with self.old end peer.now) self.old ≡ Ok (steps.items, self.new)) }
+        ensures { IfOk result (λ steps. does_act_of (acts.LeaveAndAccept own) old input (link_with self.old end peer.now) self.old ≡ Ok (steps.items, self.new)) }
     {
         let first = self.leaves(own)?;
-        followed(first, self.accepts_on(asked_on(input), end, peer)?)
+        let more = self.accepts_on(asked_on(input), end, peer)?;
+        let steps = followed(first, more)?;
+        Ok(steps)
     }
 
     /// The socket that asks is crossed, and the old one is probed.
-    fn crosses_and_probes(&mut self, up: u64, input: LinkIn) -> Result<Vec<Step>, OutOfMemory>
-        ensures { (old : LinkState) (link : Link) → IfOk result (λ steps. does_act_of (acts.CrossAndProbe up) old input link self.old ≡ Ok (steps.items, self.new)) }
+    fn crosses_and_probes(
+        &mut self,
+        end: u32,
+        peer: &Address,
+        up: u64,
+        old: LinkState,
+        input: LinkIn,
+    ) -> Result<Vec<Step>, OutOfMemory>
+        ensures { IfOk result (λ steps. does_act_of (acts.CrossAndProbe up) old input (link_with self.old end peer.now) self.old ≡ Ok (steps.items, self.new)) }
     {
         let first = self.answers_and_leaves(asked_on(input), Answer::Crossed)?;
         let item = Waiting {
@@ -283,13 +298,15 @@ impl State {
             LinkAct::Nothing | LinkAct::Dial => Ok(Vec::new(self.alloc())),
             LinkAct::Accept => self.accepts_on(asked_on(input), end, peer),
             LinkAct::Cross => self.answers_and_leaves(asked_on(input), Answer::Crossed),
-            LinkAct::LeaveAndAccept { own } => self.leaves_and_accepts(own, input, end, peer),
-            LinkAct::CrossAndProbe { old: up } => self.crosses_and_probes(up, input),
+            LinkAct::LeaveAndAccept { own } => self.leaves_and_accepts(end, peer, own, old, input),
+            LinkAct::CrossAndProbe { old: up } => self.crosses_and_probes(
+                end, peer, up, old, input,
+            ),
             LinkAct::Raise => self.raised(self.state_with(end, peer), end, peer),
             LinkAct::Leave { own } => self.leaves(own),
-            LinkAct::Fail(why) => self.fails(end, peer, old, why),
+            LinkAct::Fail(why) => self.fails(end, peer, old, why, input),
             LinkAct::Acknowledge => self.acknowledged(self.state_with(end, peer)),
-            LinkAct::Close => self.shuts(end, peer, old),
+            LinkAct::Close => self.shuts(end, peer, old, input),
         }
     }
 
@@ -316,7 +333,6 @@ impl State {
     }
 
     /// The link of an endpoint with a peer hears an input: the table gives its new state and the act.
-    #[tactic(auto, using(crate::proofs::Heard::hears_done))]
     pub(crate) fn hears(
         &mut self,
         end: u32,
@@ -330,6 +346,7 @@ impl State {
         let greater = self.is_greater(end, peer)?;
         let (now, act) = step(old, input, greater);
         self.links.set_state(end, peer, now)?;
-        self.does_act(end, peer, act, old, input)
+        let steps = self.does_act(end, peer, act, old, input)?;
+        Ok(steps)
     }
 }

@@ -222,7 +222,7 @@ impl State {
     }
 
     /// An item waits for a link that isn't up.
-    #[tactic(auto, using(crate::proofs::Sends::puts_wait, crate::proofs::Sends::waiting_stands))]
+    #[tactic(auto, using(crate::proofs::Sends::puts_wait))]
     fn waits(&mut self, end: u32, peer: &Address, item: Waiting) -> Result<Vec<Step>, OutOfMemory>
         requires up { is_up_of (link_with self.old end peer.now).state ≡ false }
         requires room { is_counted item.1 ≡ true → counted_in (link_with self.old end peer.now) < 4096 }
@@ -235,7 +235,6 @@ impl State {
     }
 
     /// An item of a link is put, and the link wants a socket.
-    #[tactic(auto, using(crate::proofs::Sends::puts_then_wants))]
     fn puts_and_wants(
         &mut self,
         end: u32,
@@ -246,8 +245,10 @@ impl State {
         requires worn { (is_idle_of (link_with self.old end peer.now).state && nat_le most_dials self.old.dials) ≡ false }
         ensures { IfOk result (λ steps. puts_and_wants_of item (link_with self.old end peer.now) self.old ≡ Ok (steps.items, self.new)) }
     {
-        let steps = self.puts(end, peer, item)?;
-        followed(steps, self.wants(end, peer)?)
+        let first = self.puts(end, peer, item)?;
+        let more = self.wants(end, peer)?;
+        let steps = followed(first, more)?;
+        Ok(steps)
     }
 
     /// An endpoint opens a connection to a peer.
@@ -277,7 +278,6 @@ impl State {
     }
 
     /// A connection gets the next id of a link, and that is put.
-    #[tactic(auto, using(crate::proofs::Sends::opens_done, crate::proofs::Sends::worn_kept))]
     fn opens(&mut self, end: u32, peer: &Address, conn: u64) -> Result<Vec<Step>, OutOfMemory>
         requires free { IsFree (link_with self.old end peer.now).given conn }
         requires room { nat_le 65536 (length (link_with self.old end peer.now).given) ≡ false }
@@ -289,7 +289,8 @@ impl State {
             frame: Frame::Created(id),
             weight: Weight::Free,
         };
-        self.puts_and_wants(end, peer, item)
+        let steps = self.puts_and_wants(end, peer, item)?;
+        Ok(steps)
     }
 }
 
