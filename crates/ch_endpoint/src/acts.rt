@@ -311,7 +311,7 @@ impl State {
     }
 
     /// The text of the address of an endpoint.
-    fn own_text(&self, end: u32) -> Result<Vec<u8>, OutOfMemory>
+    pub(crate) fn own_text(&self, end: u32) -> Result<Vec<u8>, OutOfMemory>
         ensures { IfOk result (λ text. text.items ≡ address_text (own_address self.now end)) }
     {
         let mut digits = Buffer::new();

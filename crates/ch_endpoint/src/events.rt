@@ -10,7 +10,8 @@ ghost use Rattle.ch_model.specs.Stages.{is_open as is_open_stage, is_pending as 
 ghost use Rattle.ch_model.specs.HostState.{Socket};
 ghost use Rattle.ch_model.specs.HostSteps.{is_socket, link_with, own_address};
 ghost use Rattle.ch_model.specs.HostItems.{gone_from as gone_from_of, is_gone as is_gone_of};
-ghost use Rattle.ch_model.specs.Host.{host_on};
+ghost use Rattle.ch_model.specs.Host.{host_on, joins as joins_of};
+ghost use Rattle.ch_endpoint.specs.Asks.{asks as asks_of};
 ghost use Rattle.ch_model.specs.declared.step.SocketEvent.TheVariants as events;
 ghost use Rattle.ch_endpoint.specs.Users.{user_of as user_of_socket, stands as stands_of};
 
@@ -141,6 +142,71 @@ impl State {
             self.hears(end, peer, LinkIn::Late)
         } else {
             Ok(Vec::new(self.alloc()))
+        }
+    }
+
+    /// The opener's end is open, and its request is written.
+    #[tactic(auto, using(crate::proofs::Ended::joins_unused, crate::proofs::Ended::joins_used))]
+    fn joins(&mut self, sock: u64) -> Result<Vec<Step>, OutOfMemory>
+        ensures { (socket : Socket) → find (is_socket sock) self.old.sockets ≡ Some socket → IfOk result (λ steps. joins_of socket self.old ≡ Ok (steps.items, self.new)) }
+    {
+        match self.user_of(sock)? {
+            None => Ok(Vec::new(self.alloc())),
+            Some((end, peer)) => self.asks(sock, end, &peer),
+        }
+    }
+
+    /// The opener's end is open, and the request of this endpoint to its peer is written.
+    fn asks(&mut self, sock: u64, end: u32, peer: &Address) -> Result<Vec<Step>, OutOfMemory>
+        ensures { IfOk result (λ steps. asks_of sock end peer.now self.old ≡ Ok (steps.items, self.new)) }
+    {
+        let own = self.own_text(end)?;
+        let bytes = counted(self.alloc(), peer.id, own.as_slice())?;
+        self.sockets.open(sock);
+        one(
+            self.alloc(),
+            Step::Write {
+                sock,
+                bytes,
+                said: None,
+            },
+        )
+    }
+
+    /// The opener's end is open, where it was dialed.
+    #[tactic(auto, using(crate::proofs::Ended::on_still, crate::proofs::Ended::on_joined), unfolding(ch_model::specs::Host::host_on))]
+    fn joined(&mut self, sock: u64) -> Result<Vec<Step>, OutOfMemory>
+        ensures { IfOk result (λ steps. host_on self.old (events.Joined sock) ≡ Ok (steps.items, self.new)) }
+    {
+        if self.stands_pending(sock) {
+            self.joins(sock)
+        } else {
+            Ok(Vec::new(self.alloc()))
+        }
+    }
+
+    /// Bytes that arrive are kept until they are read, where the end is open.
+    #[tactic(auto, using(crate::proofs::Ended::on_still, crate::proofs::Ended::on_fed), unfolding(ch_model::specs::Host::host_on))]
+    fn fed(&mut self, sock: u64, bytes: Text) -> Result<Vec<Step>, OutOfMemory>
+        ensures { IfOk result (λ steps. host_on self.old (events.Fed sock bytes) ≡ Ok (steps.items, self.new)) }
+    {
+        if self.stands_open(sock) {
+            self.sockets.feed(sock, bytes.as_slice())?;
+        }
+        Ok(Vec::new(self.alloc()))
+    }
+
+    /// What happens to a socket or a timer.
+    pub(crate) fn on(&mut self, event: SocketEvent) -> Result<Vec<Step>, OutOfMemory>
+        ensures { IfOk result (λ steps. host_on self.old event ≡ Ok (steps.items, self.new)) }
+    {
+        match event {
+            SocketEvent::Joined { sock } => self.joined(sock),
+            SocketEvent::Came { sock, peer_host } => self.comes(sock, peer_host),
+            SocketEvent::Refused { sock } => self.refused(sock),
+            SocketEvent::Fed { sock, bytes } => self.fed(sock, bytes),
+            SocketEvent::Ended { sock } | SocketEvent::Lost { sock } => self.ends(sock),
+            SocketEvent::Late { end, peer } => self.late(end, &peer),
         }
     }
 }

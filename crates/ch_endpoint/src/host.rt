@@ -1,10 +1,17 @@
 //! The host's calls.
 
-ghost use Rattle.std.specs.Prelude.{◌≡◌, true, false, IfOk, IfErr, IsErr, OnErr};
-ghost use Rattle.ch_model.specs.HostCalls.{host_new, host_open, host_room, host_timer_runs};
+ghost use Rattle.std.specs.Prelude.{◌≡◌, true, false, IfOk, IfErr, IsErr, IsErrOf, OnErr, MatchResult, Ok, Err};
+ghost use Rattle.ch_model.specs.HostCalls.{host_new, host_open, host_connect, host_room, host_timer_runs};
+ghost use Rattle.ch_light.specs.Ids.{IsFree};
+ghost use Rattle.ch_base.specs.declared.memory.Stop.TheVariants as stops;
+ghost use Rattle.ch_model.specs.declared.step.EndError.TheVariants as errors;
+ghost use Rattle.ch_model.specs.HostSteps.{link_with};
+ghost use Rattle.ch_model.specs.Host.{host_on};
+ghost use Rattle.ch_endpoint.specs.Calls.{Fails, Stops, Leaves, is_want_of};
 
 use crate::state::State;
-use ch_base::{Address, OutOfMemory, Room, Text};
+use ch_base::{Address, OutOfMemory, Room, Stop, Text};
+use ch_model::{EndError, SocketEvent, Step};
 use std::alloc::Global;
 use std::marker::Model;
 
@@ -21,6 +28,16 @@ impl Model for Host {
     ghost Value = { Kept };
 
     ghost view = { λ h. record { failed = h.failed; state = h.state } };
+}
+
+/// Whether memory was wanting.
+fn is_want(done: &Result<Vec<Step>, EndError>) -> bool
+    ensures { result ≡ is_want_of done.now }
+{
+    match done {
+        Err(EndError::OutOfMemory) => true,
+        _ => false,
+    }
 }
 
 impl Host {
@@ -48,6 +65,43 @@ impl Host {
         let done = self.state.open(end);
         self.failed = done.is_err();
         done
+    }
+
+    /// Opens a connection to a peer: it gets the link's next id, and that is written or waits; a link that is idle
+    /// dials. It is refused, in this order, with `NoEndPoint` where the endpoint isn't open, `Spent` where all
+    /// ids were given, `Worn` where the count of dials can't grow; these leave the host unchanged. After
+    /// `OutOfMemory` the host answers that for good.
+    pub fn connect(&mut self, end: u32, peer: &Address, conn: u64) -> Result<Vec<Step>, EndError>
+        requires { IsFree (link_with self.old.state end peer.now).given conn }
+        ensures does { MatchResult result (λ steps. host_connect self.old.state end peer.now conn ≡ Ok (steps.items, self.new.state)) (λ e. Fails e (host_connect self.old.state end peer.now conn)) }
+        ensures err { IfErr result (λ e. Leaves self.old self.new e) }
+        ensures spent { self.old.failed ≡ true → IsErrOf result errors.OutOfMemory }
+    {
+        if self.failed {
+            return Err(EndError::OutOfMemory);
+        }
+        let done = self.state.connect(end, peer, conn);
+        self.failed = is_want(&done);
+        done
+    }
+
+    /// What happens to a socket or a timer. Bytes that are fed are kept for `next`. After `OutOfMemory` the host
+    /// answers that for good.
+    pub fn on(&mut self, event: SocketEvent) -> Result<Vec<Step>, Stop>
+        ensures does { MatchResult result (λ steps. host_on self.old.state event ≡ Ok (steps.items, self.new.state)) (λ e. Stops e (host_on self.old.state event)) }
+        ensures err { OnErr result (self.new.failed ≡ true) }
+        ensures spent { self.old.failed ≡ true → IsErrOf result stops.OutOfMemory }
+    {
+        if self.failed {
+            return Err(Stop::OutOfMemory);
+        }
+        match self.state.on(event) {
+            Ok(steps) => Ok(steps),
+            Err(_) => {
+                self.failed = true;
+                Err(Stop::OutOfMemory)
+            }
+        }
     }
 
     /// Whether a timer runs for the link of an endpoint with a peer. It takes no memory.

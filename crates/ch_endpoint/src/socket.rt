@@ -1,8 +1,8 @@
 //! A host's end of a socket.
 
-ghost use Rattle.std.specs.Prelude.{◌≡◌, [], ◌++◌, None, Some, IfOk};
+ghost use Rattle.std.specs.Prelude.{◌≡◌, [], ◌++◌, None, Some, IfOk, OnOk};
 ghost use Rattle.ch_model.specs.HostLinks.{dialed};
-ghost use Rattle.ch_model.specs.Stages.{is_open as is_open_of, is_pending as is_pending_of};
+ghost use Rattle.ch_model.specs.Stages.{Open, is_open as is_open_of, is_pending as is_pending_of};
 ghost use Rattle.ch_model.specs.Host.{accepted};
 ghost use Rattle.ch_endpoint.specs.Ends.{ended};
 
@@ -106,5 +106,20 @@ impl Socket {
             Standing::Pending => true,
             _ => false,
         }
+    }
+
+    /// It is open.
+    pub(crate) fn open(&mut self)
+        ensures { self.new ≡ record self.old { stage = Open } }
+    {
+        self.standing = Standing::Open;
+    }
+
+    /// Bytes are kept behind those that are.
+    pub(crate) fn feed(&mut self, bytes: &[u8]) -> Result<(), OutOfMemory>
+        ensures { OnOk result (self.new ≡ record self.old { since = self.old.since ++ bytes.now }) }
+    {
+        self.since.extend_from_slice(bytes)?;
+        Ok(())
     }
 }

@@ -3,7 +3,7 @@
 ghost use Rattle.std.specs.Prelude.{◌≡◌, ◌<◌, [], length, position, find, IfSome, OnOk};
 ghost use Rattle.std.specs.Option.{option_copied};
 ghost use Rattle.ch_model.specs.HostSteps.{is_socket, store_socket};
-ghost use Rattle.ch_endpoint.specs.Ends.{ended_among};
+ghost use Rattle.ch_endpoint.specs.Ends.{ended_among, opened_among, fed_among};
 
 use crate::socket::Socket;
 use ch_base::OutOfMemory;
@@ -71,5 +71,26 @@ impl Sockets {
             None => {}
             Some(place) => self.rows[place].end(),
         }
+    }
+
+    /// The end of a socket is open.
+    pub(crate) fn open(&mut self, number: u64)
+        ensures { self.new ≡ opened_among number self.old }
+    {
+        match self.place(number) {
+            None => {}
+            Some(place) => self.rows[place].open(),
+        }
+    }
+
+    /// Bytes are kept at the end of a socket.
+    pub(crate) fn feed(&mut self, number: u64, bytes: &[u8]) -> Result<(), OutOfMemory>
+        ensures { OnOk result (self.new ≡ fed_among bytes.now number self.old) }
+    {
+        match self.place(number) {
+            None => {}
+            Some(place) => self.rows[place].feed(bytes)?,
+        }
+        Ok(())
     }
 }
