@@ -2,3 +2,4 @@ pub mod Tables
 pub mod Sends
 pub mod Heard
 pub mod Ended
+pub mod Sending

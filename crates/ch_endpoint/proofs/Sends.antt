@@ -190,18 +190,18 @@ connect_does host end peer conn o g = rw (o, g) refl
 pub connect_opens : (host : HostState) (end : ℕ) (peer : Address) (conn : ℕ) (done : List Step × HostState) → list_any (is_open_endpoint end) host.ends ≡ true → nat_le 65536 (length (link_with host end peer).given) ≡ false → opened_of (link_with host end peer) conn host ≡ Ok done → host_connect host end peer conn ≡ Ok done
 connect_opens host end peer conn done o g d = connect_does host end peer conn o g ∙ ap stepped d
 
-idle_is : (state : LinkState) → is_idle state ≡ true → state ≡ Idle
+pub idle_is : (state : LinkState) → is_idle state ≡ true → state ≡ Idle
 idle_is Idle e = refl
 idle_is (Dialing sock) e = absurd cc
 idle_is AwaitOther e = absurd cc
 idle_is (Up sock probed) e = absurd cc
 
-both_hold : (a b : Bool) → (a && b) ≡ true → (a ≡ true) × (b ≡ true)
+pub both_hold : (a b : Bool) → (a && b) ≡ true → (a ≡ true) × (b ≡ true)
 both_hold true true e = (refl, refl)
 both_hold true false e = absurd cc
 both_hold false b e = absurd cc
 
-at_most : (a b : ℕ) → nat_le b a ≡ true → nat_lt a b ≡ false
+pub at_most : (a b : ℕ) → nat_le b a ≡ true → nat_lt a b ≡ false
 at_most a b e = grind (arith, nat_tests)
 
 pub connect_worn : (host : HostState) (end : ℕ) (peer : Address) (conn : ℕ) → list_any (is_open_endpoint end) host.ends ≡ true → nat_le 65536 (length (link_with host end peer).given) ≡ false → (is_idle (link_with host end peer).state && nat_le most_dials host.dials) ≡ true → host_connect host end peer conn ≡ Err errors.Worn

@@ -1,10 +1,10 @@
 -- Links by endpoint and peer: what is found under a key, and what is stored under it.
-use Rattle.std.proofs.Common.{◌≡◌, ℕ, suc, ◌+◌, ◌<◌, Bool, true, false, not, cond, ◌&&◌, ◌==◌, nat_lt, List, [], ◌∷◌, ◌++◌, length, get_or, find, Option, Some, None, refl, ap, sym, ◌∙◌, arith}
+use Rattle.std.proofs.Common.{◌≡◌, ℕ, suc, ◌+◌, ◌<◌, Bool, true, false, not, cond, ◌&&◌, ◌==◌, nat_lt, List, [], ◌∷◌, ◌++◌, length, get_or, find, Option, Some, None, subst, refl, ap, sym, ◌∙◌, arith}
 use Rattle.std.specs.List.{position_or_len, position}
 use Rattle.std.specs.Prelude.{set, slice_set}
 use Rattle.std.proofs.lemmas.List.{set_at, get_or_at}
 use Rattle.std.proofs.lemmas.Grind.{common_steps}
-use Rattle.ch_endpoint.specs.Places.{IsPlaceOf}
+use Rattle.ch_endpoint.specs.Places.{IsPlaceOf, Apart}
 use Rattle.std.specs.Str.{bytes_eq}
 use Rattle.std.proofs.lemmas.Bool.{ltb-true, ltb-false}
 use Rattle.std.proofs.lemmas.Bool.Decides.{nat_tests}
@@ -12,6 +12,7 @@ use Rattle.std.proofs.lemmas.Slice.Eq.{bytes_eq-Decides}
 use Rattle.ch_base.specs.declared.address.Address.{Address}
 use Rattle.ch_watch.specs.Same.{same_node}
 use Rattle.ch_model.specs.HostState.{Link, Socket}
+use Rattle.ch_model.specs.HostCalls.{carries}
 use Rattle.ch_model.specs.HostSteps.{is_link, link_or_new, new_link, store_link, is_socket, store_socket}
 
 -- ---- a list by a test
@@ -167,24 +168,59 @@ stored link (known ∷ rest) = ap (λ zs. cond (is_link link.end link.peer known
 pub stored_under : (end : ℕ) (peer : Address) (link : Link) → link.end ≡ end → link.peer ≡ peer → (links : List Link) → store_link link links ≡ replaced (is_link end peer) link links
 stored_under end peer link e p links = stored link links ∙ (λ i. replaced (is_link (e i) (p i)) link links)
 
+-- ---- links of keys apart
+
+-- what isn't found isn't found after a write of what doesn't pass
+find_other : {X : Type 0} (p q : X → Bool) (y : X) → q y ≡ false → (xs : List X) → find q xs ≡ None → find q (replaced p y xs) ≡ None
+find_other p q y other [] e = ap (λ b. cond b (Some y) None) other
+find_other p q y other (x ∷ xs) e = by_tests (p x) (q x) refl (find_other p q y other xs) e
+  where
+    by_tests : (a b : Bool) → q x ≡ b → (find q xs ≡ None → find q (replaced p y xs) ≡ None) → cond b (Some x) (find q xs) ≡ None → find q (cond a (y ∷ xs) (x ∷ replaced p y xs)) ≡ None
+    by_tests a true h ih e = absurd cc
+    by_tests true false h ih e = ap (λ b. cond b (Some y) (find q xs)) other ∙ e
+    by_tests false false h ih e = ap (λ b. cond b (Some x) (find q (replaced p y xs))) h ∙ ih e
+
+-- a link of another key doesn't pass
+not_of : (end : ℕ) (peer : Address) (x y : Link) → y.end ≡ end → y.peer ≡ peer → is_link end peer x ≡ false → is_link x.end x.peer y ≡ false
+not_of end peer x y k p other = by_test (is_link x.end x.peer y) refl
+  where
+    by_test : (b : Bool) → is_link x.end x.peer y ≡ b → b ≡ false
+    by_test false e = refl
+    by_test true e =
+        let key = keyed x.end x.peer y e in
+        let passes : is_link end peer x ≡ true = (λ i. is_link ((sym k ∙ key.0) i) ((sym p ∙ key.1) i) x) ∙ own_key x in
+        absurd (let no : true ≡ false = sym passes ∙ other in cc)
+
+apart_replaced : (end : ℕ) (peer : Address) (y : Link) → y.end ≡ end → y.peer ≡ peer → (xs : List Link) → Apart xs → Apart (replaced (is_link end peer) y xs)
+apart_replaced end peer y k p [] a = (refl, tt)
+apart_replaced end peer y k p (x ∷ xs) a = by_test (is_link end peer x) refl (apart_replaced end peer y k p xs a.1)
+  where
+    by_test : (b : Bool) → is_link end peer x ≡ b → Apart (replaced (is_link end peer) y xs) → Apart (cond b (y ∷ xs) (x ∷ replaced (is_link end peer) y xs))
+    by_test true e rest =
+        let key = keyed end peer x e in
+        ((λ i. find (is_link ((k ∙ sym key.0) i) ((p ∙ sym key.1) i)) xs) ∙ a.0, a.1)
+    by_test false e rest = (find_other (is_link end peer) (is_link x.end x.peer) y (not_of end peer x y k p e) xs a.0, rest)
+
 -- ---- the place of a link
 
 -- a link that is there stands at its place
-pub there : (end : ℕ) (peer : Address) (links : List Link) (place : ℕ) → position (is_link end peer) links ≡ Some place → place < length links → IsPlaceOf end peer links links place
-there end peer links place e within = record {
+pub there : (end : ℕ) (peer : Address) (links : List Link) (place : ℕ) → Apart links → position (is_link end peer) links ≡ Some place → place < length links → IsPlaceOf end peer links links place
+there end peer links place apart e within = record {
   within = within;
   value = λ d. sym (ap (link_or_new end peer) (found_there (is_link end peer) d links place e));
   stores = λ link k p. replaced_there (is_link end peer) link links place e ∙ sym (stored_under end peer link k p links);
+  keeps = λ link k p. subst Apart (sym (replaced_there (is_link end peer) link links place e)) (apart_replaced end peer link k p links apart);
 }
 
 -- a link that was added last stands at the last place
-pub added : (end : ℕ) (peer : Address) (links : List Link) → position (is_link end peer) links ≡ None → IsPlaceOf end peer links (links ++ new_link end peer ∷ []) (length links)
-added end peer links e =
+pub added : (end : ℕ) (peer : Address) (links : List Link) → Apart links → position (is_link end peer) links ≡ None → IsPlaceOf end peer links (links ++ new_link end peer ∷ []) (length links)
+added end peer links apart e =
     let none = none_there (is_link end peer) links e in
     record {
       within = grind (arith, common_steps);
       value = λ d. get_or_at links (new_link end peer) [] d (length links) refl ∙ sym (ap (link_or_new end peer) none);
       stores = λ link k p. set_at links (new_link end peer) [] link (length links) refl ∙ sym (replaced_last (is_link end peer) link links none) ∙ sym (stored_under end peer link k p links);
+      keeps = λ link k p. subst Apart (sym (set_at links (new_link end peer) [] link (length links) refl ∙ sym (replaced_last (is_link end peer) link links none))) (apart_replaced end peer link k p links apart);
     }
 
 -- what is changed at the place, and not under another key, is stored
@@ -196,11 +232,11 @@ changed f keeps end peer old new rows place at same before after is done =
     let now : after ≡ f link = done ∙ ap f was in
     (λ i. slice_set (same i) place (now i)) ∙ at.stores (f link) ((keeps link).0 ∙ key.0) ((keeps link).1 ∙ key.1)
 
-pub added_to : (end : ℕ) (peer : Address) (links rows after : List Link) (place : ℕ) (own : Link) → rows ≡ links → position (is_link end peer) links ≡ None → own ≡ new_link end peer → after ≡ rows ++ own ∷ [] → place ≡ length rows → IsPlaceOf end peer links after place
-added_to end peer links rows after place own same none is push count =
+pub added_to : (end : ℕ) (peer : Address) (links rows after : List Link) (place : ℕ) (own : Link) → Apart links → rows ≡ links → position (is_link end peer) links ≡ None → own ≡ new_link end peer → after ≡ rows ++ own ∷ [] → place ≡ length rows → IsPlaceOf end peer links after place
+added_to end peer links rows after place own apart same none is push count =
     let grown : after ≡ links ++ new_link end peer ∷ [] = push ∙ (λ i. same i ++ is i ∷ []) in
     let last : place ≡ length links = count ∙ ap length same in
-    let at : IsPlaceOf end peer links (links ++ new_link end peer ∷ []) (length links) = added end peer links none in
+    let at : IsPlaceOf end peer links (links ++ new_link end peer ∷ []) (length links) = added end peer links apart none in
     rw (grown, last) at
 
 -- ---- links that were stored
@@ -265,3 +301,44 @@ end_changed f keeps number sockets rows place same e before after is done =
     let own : before.number ≡ number = number_is _ _ (found_passes (is_socket number) before sockets found) in
     let key : number ≡ (f before).number = sym ((keeps before) ∙ own) in
     (found, ap (slice_set rows place) done ∙ socket_kept (f before) number sockets rows place key same e)
+
+-- what is added to links of keys apart is apart from them
+pub added_apart : (end : ℕ) (peer : Address) (links rows after : List Link) (own : Link) → Apart links → rows ≡ links → position (is_link end peer) links ≡ None → own ≡ new_link end peer → after ≡ rows ++ own ∷ [] → Apart after
+added_apart end peer links rows after own apart same none is push =
+    let last : after ≡ replaced (is_link end peer) (new_link end peer) links = push ∙ (λ i. same i ++ is i ∷ []) ∙ sym (replaced_last (is_link end peer) (new_link end peer) links (none_there (is_link end peer) links none)) in
+    subst Apart (sym last) (apart_replaced end peer (new_link end peer) refl refl links apart)
+
+pub changed_apart : (f : Link → Link) → ((l : Link) → ((f l).end ≡ l.end) × ((f l).peer ≡ l.peer)) → (end : ℕ) (peer : Address) (old new rows : List Link) (place : ℕ) → IsPlaceOf end peer old new place → rows ≡ new → (before after : Link) → before ≡ get_or rows place before → after ≡ f before → Apart (slice_set rows place after)
+changed_apart f keeps end peer old new rows place at same before after is done =
+    let link : Link = link_or_new end peer (find (is_link end peer) old) in
+    let key = key_with end peer old in
+    let was : before ≡ link = is ∙ ap (λ r. get_or r place before) same ∙ at.value before in
+    let now : after ≡ f link = done ∙ ap f was in
+    subst Apart (λ i. slice_set (sym same i) place (sym now i)) (at.keeps (f link) ((keeps link).0 ∙ key.0) ((keeps link).1 ∙ key.1))
+
+-- ---- the link that has a connection open
+
+is_carrier : (end conn : ℕ) (link : Link) → carries end conn link ≡ true → link.end ≡ end
+is_carrier end conn link e = number_is _ _ (both _ _ e).0
+
+-- the first link that has a connection open is the link of its key
+pub carrier_is : (end conn : ℕ) (link : Link) (links : List Link) → Apart links → find (carries end conn) links ≡ Some link → find (is_link end link.peer) links ≡ Some link
+carrier_is end conn link [] a e = absurd cc
+carrier_is end conn link (x ∷ xs) a e = by_tests (carries end conn x) (is_link end link.peer x) refl refl (carrier_is end conn link xs a.1) e
+  where
+    by_tests : (b h : Bool) → carries end conn x ≡ b → is_link end link.peer x ≡ h → (find (carries end conn) xs ≡ Some link → find (is_link end link.peer) xs ≡ Some link) → cond b (Some x) (find (carries end conn) xs) ≡ Some link → cond h (Some x) (find (is_link end link.peer) xs) ≡ Some link
+    by_tests true true c k ih e = e
+    by_tests true false c k ih e =
+        let same : x ≡ link = cc in
+        let own : x.end ≡ end = is_carrier end conn x c in
+        let passes : is_link end link.peer x ≡ true = (λ i. is_link (sym own i) (sym same i).peer x) ∙ own_key x in
+        absurd (let no : true ≡ false = sym passes ∙ k in cc)
+    by_tests false false c k ih e = ih e
+    by_tests false true c k ih e =
+        let key = keyed end link.peer x k in
+        let gone : find (is_link end link.peer) xs ≡ None = (λ i. find (is_link (sym key.0 i) (sym key.1 i)) xs) ∙ a.0 in
+        absurd (let no : None ≡ Some link = sym gone ∙ ih e in cc)
+
+-- so it is the link of the endpoint with its peer
+pub carrier_with : (end conn : ℕ) (link : Link) (links : List Link) → Apart links → find (carries end conn) links ≡ Some link → link_or_new end link.peer (find (is_link end link.peer) links) ≡ link
+carrier_with end conn link links a e = ap (link_or_new end link.peer) (carrier_is end conn link links a e)

@@ -1,7 +1,7 @@
 //! The host's calls.
 
 ghost use Rattle.std.specs.Prelude.{◌≡◌, true, false, IfOk, IfErr, IsErr, IsErrOf, OnErr, MatchResult, Ok, Err};
-ghost use Rattle.ch_model.specs.HostCalls.{host_new, host_open, host_connect, host_room, host_timer_runs};
+ghost use Rattle.ch_model.specs.HostCalls.{host_new, host_open, host_connect, host_send, host_room, host_timer_runs};
 ghost use Rattle.ch_light.specs.Ids.{IsFree};
 ghost use Rattle.ch_base.specs.declared.memory.Stop.TheVariants as stops;
 ghost use Rattle.ch_model.specs.declared.step.EndError.TheVariants as errors;
@@ -11,7 +11,7 @@ ghost use Rattle.ch_endpoint.specs.Calls.{Fails, Stops, Leaves, is_want_of};
 
 use crate::state::State;
 use ch_base::{Address, OutOfMemory, Room, Stop, Text};
-use ch_model::{EndError, SocketEvent, Step};
+use ch_model::{EndError, SocketEvent, Step, Weight};
 use std::alloc::Global;
 use std::marker::Model;
 
@@ -81,6 +81,30 @@ impl Host {
             return Err(EndError::OutOfMemory);
         }
         let done = self.state.connect(end, peer, conn);
+        self.failed = is_want(&done);
+        done
+    }
+
+    /// Sends a payload on a connection: it is written where the link is up, and else waits; a link that is idle
+    /// dials. It is refused, in this order, with `NoConnection` where the endpoint has no such connection open,
+    /// `PayloadLong` where it has more than 65,536 bytes, `QueueFull` where it is counted, the link isn't up, and
+    /// 4,096 counted payloads wait, `Worn` where the count of dials can't grow; these leave the host unchanged.
+    /// After `OutOfMemory` the host answers that for good.
+    pub fn send(
+        &mut self,
+        end: u32,
+        conn: u64,
+        payload: &[u8],
+        weight: Weight,
+    ) -> Result<Vec<Step>, EndError>
+        ensures does { MatchResult result (λ steps. host_send self.old.state end conn payload.now weight ≡ Ok (steps.items, self.new.state)) (λ e. Fails e (host_send self.old.state end conn payload.now weight)) }
+        ensures err { IfErr result (λ e. Leaves self.old self.new e) }
+        ensures spent { self.old.failed ≡ true → IsErrOf result errors.OutOfMemory }
+    {
+        if self.failed {
+            return Err(EndError::OutOfMemory);
+        }
+        let done = self.state.send(end, conn, payload, weight);
         self.failed = is_want(&done);
         done
     }

@@ -10,6 +10,7 @@ mod events;
 mod host;
 mod link;
 mod links;
+mod payloads;
 mod socket;
 mod sockets;
 mod state;

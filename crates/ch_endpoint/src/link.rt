@@ -4,7 +4,8 @@ ghost use Rattle.std.specs.Prelude.{◌≡◌, ◌<◌, ◌≤◌, ◌+◌, ◌+
 ghost use Rattle.ch_watch.specs.Same.{same_node as same_node_of};
 ghost use Rattle.ch_model.specs.HostSteps.{is_link, new_link};
 ghost use Rattle.ch_model.specs.HostWrites.{is_counted as is_counted_of, counted_in, said_of, forgotten, frame_step as frame_step_of};
-ghost use Rattle.ch_light.specs.Ids.{IsFree, opened};
+ghost use Rattle.ch_light.specs.Ids.{IsFree, opened, id_of};
+ghost use Rattle.ch_model.specs.HostCalls.{carries};
 
 use ch_base::{Address, OutOfMemory, Text};
 use ch_light::{Incoming, Outgoing};
@@ -103,6 +104,22 @@ impl Link {
         self.state = state;
     }
 
+    /// Whether the connection is open on it, for this endpoint.
+    pub(crate) fn carries(&self, end: u32, conn: u64) -> bool
+        ensures { result ≡ carries end conn self.now }
+    {
+        self.end == end && self.given.id_of(conn).is_some()
+    }
+
+    /// The id of a connection that is open on it.
+    #[tactic(auto, using(crate::proofs::Sending::id_least))]
+    pub(crate) fn id_of(&self, conn: u64) -> Option<u32>
+        ensures value { result ≡ id_of self.now.given conn }
+        ensures least { IfSome result (λ id. 1024 ≤ id) }
+    {
+        self.given.id_of(conn)
+    }
+
     /// How many counted payloads wait.
     pub(crate) fn counted(&self) -> u32
         ensures value { result ≡ counted_in self.now }
@@ -125,6 +142,7 @@ impl Link {
         requires room { length self.old.given < 65536 }
         ensures id { IfOk result (λ id. id ≡ 1024 + length self.old.given) }
         ensures ok { OnOk result (self.new ≡ record self.old { given = self.old.given ++ opened conn ∷ [] }) }
+        ensures err { OnErr result (self.new ≡ self.old) }
     {
         match self.given.give(conn) {
             Ok(id) => Ok(id),
@@ -136,6 +154,7 @@ impl Link {
     pub(crate) fn wait(&mut self, item: Waiting) -> Result<(), OutOfMemory>
         requires { is_counted_of item.1 ≡ true → counted_in self.old < 4096 }
         ensures ok { OnOk result (self.new ≡ record self.old { waits = self.old.waits ++ item ∷ [] }) }
+        ensures err { OnErr result (self.new ≡ self.old) }
     {
         let counted = is_counted(item.weight);
         self.waits.push(item)?;

@@ -1,10 +1,11 @@
 //! The links of a host, by endpoint and peer.
 
-ghost use Rattle.std.specs.Prelude.{◌≡◌, ◌<◌, ◌+◌, true, [], length, position, find, IfSome, IfOk, OnOk, OnErr};
+ghost use Rattle.std.specs.Prelude.{◌≡◌, ◌<◌, ◌+◌, true, [], length, position, find, IfSome, IfOk, OnOk, OnErr, MatchOption, None, Some};
 ghost use Rattle.std.specs.Option.{option_copied};
 ghost use Rattle.ch_model.specs.HostSteps.{is_link, link_or_new, store_link};
 ghost use Rattle.ch_model.specs.HostWrites.{is_counted, counted_in};
 ghost use Rattle.ch_light.specs.Ids.{IsFree};
+ghost use Rattle.ch_model.specs.HostCalls.{carries};
 ghost use Rattle.ch_endpoint.specs.Places.{IsPlaceOf};
 ghost use Rattle.ch_endpoint.specs.Waits.{giving, waiting, forgetting};
 
@@ -26,7 +27,11 @@ impl Model for Links {
 
     ghost Value = { List LinkValue };
 
+    ghost use Rattle.ch_endpoint.specs.Places.{Apart};
+
     ghost view = { λ links. links.rows.items };
+
+    ghost invariant = { λ links. Apart links.rows.items };
 }
 
 impl Links {
@@ -134,5 +139,22 @@ impl Links {
         let place = self.made(end, peer)?;
         self.rows[place].forget();
         Ok(())
+    }
+
+    fn place_of(&self, end: u32, conn: u64) -> Option<usize>
+        ensures place { result ≡ position (carries end conn) self.now }
+        ensures within { IfSome result (λ place. place < length self.now) }
+    {
+        self.rows.iter().position(|link| link.carries(end, conn))
+    }
+
+    /// The peer of the link on which an endpoint has this connection open. It walks the links.
+    pub(crate) fn carrier(&self, end: u32, conn: u64) -> Option<&Address>
+        ensures { MatchOption result (find (carries end conn) self.now ≡ None) (λ peer. find (carries end conn) self.now ≡ Some (link_or_new end peer.now (find (is_link end peer.now) self.now))) }
+    {
+        match self.place_of(end, conn) {
+            None => None,
+            Some(place) => Some(&self.rows[place].peer),
+        }
     }
 }

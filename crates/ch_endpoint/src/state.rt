@@ -163,7 +163,7 @@ impl State {
     }
 
     /// Whether the link would dial and the count of dials can't grow.
-    fn is_worn(&self, end: u32, peer: &Address) -> bool
+    pub(crate) fn is_worn(&self, end: u32, peer: &Address) -> bool
         ensures { result ≡ (is_idle_of (link_with self.now end peer.now).state && nat_le most_dials self.now.dials) }
     {
         is_idle(self.state_with(end, peer)) && self.dials >= MOST_DIALS
@@ -204,7 +204,12 @@ impl State {
 
     /// An item of the link is written at once where the link is up, and else waits.
     #[tactic(auto, using(crate::proofs::Sends::puts_up))]
-    fn puts(&mut self, end: u32, peer: &Address, item: Waiting) -> Result<Vec<Step>, OutOfMemory>
+    pub(crate) fn puts(
+        &mut self,
+        end: u32,
+        peer: &Address,
+        item: Waiting,
+    ) -> Result<Vec<Step>, OutOfMemory>
         requires { is_counted item.1 ≡ true → is_up_of (link_with self.old end peer.now).state ≡ false → counted_in (link_with self.old end peer.now) < 4096 }
         ensures does { IfOk result (λ steps. puts_of item (link_with self.old end peer.now) self.old ≡ Ok (steps.items, self.new)) }
         ensures state { OnOk result ((link_with self.new end peer.now).state ≡ (link_with self.old end peer.now).state) }
@@ -235,7 +240,7 @@ impl State {
     }
 
     /// An item of a link is put, and the link wants a socket.
-    fn puts_and_wants(
+    pub(crate) fn puts_and_wants(
         &mut self,
         end: u32,
         peer: &Address,
@@ -303,7 +308,7 @@ fn is_idle(state: LinkState) -> bool
     }
 }
 
-fn is_up(state: LinkState) -> bool
+pub(crate) fn is_up(state: LinkState) -> bool
     ensures { result ≡ is_up_of state }
 {
     match state {
