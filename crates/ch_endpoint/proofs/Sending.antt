@@ -2,17 +2,21 @@
 use Rattle.std.proofs.Common.{◌≡◌, ℕ, ◌+◌, ◌<◌, ◌≤◌, Bool, true, false, cond, ◌&&◌, not, nat_lt, nat_le, length, List, [], ◌∷◌, find, Option, Some, None, Result, Ok, Err, refl, ap, sym, ◌∙◌, arith}
 use Rattle.std.proofs.lemmas.Bool.Decides.{nat_tests}
 use Rattle.ch_wire.specs.declared.frame.Frame.TheVariants as frames
-use Rattle.ch_light.specs.Ids.{id_of, place_of}
+use Rattle.std.specs.Prelude.{slice_set, option_map}
+use Rattle.ch_light.specs.Ids.{id_of, place_of, close_of, close_at, closed}
+use Rattle.ch_light.specs.declared.error.LightError.TheVariants.{NotOpen}
+use Rattle.ch_model.specs.declared.step.Weight.TheVariants.{Free}
+use Rattle.ch_endpoint.specs.Waits.{closing, closed_among}
 use Rattle.ch_light.specs.declared.Connection.{Connection}
 use Rattle.ch_model.specs.declared.step.Step.{Step}
 use Rattle.ch_model.specs.declared.step.Weight.{Weight}
 use Rattle.ch_model.specs.declared.step.EndError.TheVariants.{NoConnection, PayloadLong, QueueFull, Worn}
 use Rattle.ch_model.specs.HostState.{Link, HostState}
-use Rattle.ch_model.specs.HostWrites.{is_counted, is_up, counted_in}
+use Rattle.ch_model.specs.HostWrites.{is_counted, is_up, counted_in, puts}
 use Rattle.ch_model.specs.HostLinks.{most_dials}
 use Rattle.ch_endpoint.specs.Places.{is_idle}
 use Rattle.ch_endpoint.proofs.Sends.{puts_and_wants_worn, idle_is, both_hold, at_most}
-use Rattle.ch_model.specs.HostCalls.{host_send, carries, puts_and_wants, stepped}
+use Rattle.ch_model.specs.HostCalls.{host_send, host_close, carries, puts_and_wants, stepped}
 
 -- an id is at least the first
 pub id_least : (table : List Connection) (conn id : ℕ) → id_of table conn ≡ Some id → 1024 ≤ id
@@ -75,3 +79,37 @@ pub sent_worn : (host : HostState) (end conn id : ℕ) (payload : List ℕ) (wei
 sent_worn host end conn id payload weight link e l f i w =
     let h = both_hold _ _ w in
     send_does host end conn id payload weight link e (short_is (length payload) l) f i ∙ ap stepped (puts_and_wants_worn (frames.Data id payload, weight) link host (idle_is link.state h.0) (at_most host.dials most_dials h.1))
+
+-- ---- a connection that is closed
+
+close_place : (table : List Connection) (conn id : ℕ) (o : Option ℕ) → option_map (λ place. 1024 + place) o ≡ Some id → close_at table conn o ≡ Ok (id, closed_among (close_at table conn o) table)
+close_place table conn id None e = absurd cc
+close_place table conn id (Some place) e = let is : 1024 + place ≡ id = cc in (λ i. Ok (is i, slice_set table place (closed conn)))
+
+-- a connection that has an id is closed under it
+pub close_id : (table : List Connection) (conn id : ℕ) → id_of table conn ≡ Some id → close_of table conn ≡ Ok (id, closed_among (close_of table conn) table)
+unfolding id_of close_of
+close_id table conn id e = close_place table conn id (place_of table conn) e
+
+none_place : (table : List Connection) (conn : ℕ) (o : Option ℕ) → option_map (λ place. 1024 + place) o ≡ None → close_at table conn o ≡ Err NotOpen
+none_place table conn None e = refl
+none_place table conn (Some place) e = absurd cc
+
+close_lost_id : (table : List Connection) (conn : ℕ) → id_of table conn ≡ None → close_of table conn ≡ Err NotOpen
+unfolding id_of close_of
+close_lost_id table conn e = none_place table conn (place_of table conn) e
+
+pub close_none : (host : HostState) (end conn : ℕ) → find (carries end conn) host.links ≡ None → host_close host end conn ≡ Err NoConnection
+unfolding host_close
+close_none host end conn e = rw e refl
+
+pub close_lost : (host : HostState) (end conn : ℕ) (link : Link) → find (carries end conn) host.links ≡ Some link → id_of link.given conn ≡ None → host_close host end conn ≡ Err NoConnection
+unfolding host_close
+close_lost host end conn link e n = let lost = close_lost_id link.given conn n in rw (e, lost) refl
+
+close_stands : (host : HostState) (end conn id : ℕ) (link : Link) (given : List Connection) → find (carries end conn) host.links ≡ Some link → close_of link.given conn ≡ Ok (id, given) → host_close host end conn ≡ stepped (puts (frames.Closed id, Free) (record link { given = given }) host)
+unfolding host_close
+close_stands host end conn id link given e c = rw (e, c) refl
+
+pub close_does : (host : HostState) (end conn id : ℕ) (link : Link) (done : List Step × HostState) → find (carries end conn) host.links ≡ Some link → id_of link.given conn ≡ Some id → puts (frames.Closed id, Free) (closing conn link) host ≡ Ok done → host_close host end conn ≡ Ok done
+close_does host end conn id link done e i p = close_stands host end conn id link (closed_among (close_of link.given conn) link.given) e (close_id link.given conn id i) ∙ ap stepped p

@@ -210,3 +210,10 @@ connect_worn host end peer conn o g w =
     let h = both_hold _ _ w in
     let worn : opened_of link conn host ≡ Err Worn = puts_and_wants_worn (frames.Created (1024 + length link.given), Free) (giving conn link) host (idle_is link.state h.0) (at_most host.dials most_dials h.1) in
     connect_does host end peer conn o g ∙ ap stepped worn
+
+-- what is put on a link that was stored
+pub puts_kept : (item : Frame × Weight) (end : ℕ) (peer : Address) (link : Link) (host after : HostState) → link.end ≡ end → link.peer ≡ peer → after ≡ with_link link host → puts item (link_with after end peer) after ≡ puts item link host
+puts_kept item end peer link host after k p now =
+    ap (λ h. puts item (link_with h end peer) h) now
+    ∙ ap (λ l. puts item l (with_link link host)) (with_stored end peer link host k p)
+    ∙ puts_stored item link.state link host

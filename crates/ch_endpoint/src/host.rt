@@ -1,7 +1,7 @@
 //! The host's calls.
 
 ghost use Rattle.std.specs.Prelude.{◌≡◌, true, false, IfOk, IfErr, IsErr, IsErrOf, OnErr, MatchResult, Ok, Err};
-ghost use Rattle.ch_model.specs.HostCalls.{host_new, host_open, host_connect, host_send, host_room, host_timer_runs};
+ghost use Rattle.ch_model.specs.HostCalls.{host_new, host_open, host_connect, host_send, host_close, host_room, host_timer_runs};
 ghost use Rattle.ch_light.specs.Ids.{IsFree};
 ghost use Rattle.ch_base.specs.declared.memory.Stop.TheVariants as stops;
 ghost use Rattle.ch_model.specs.declared.step.EndError.TheVariants as errors;
@@ -105,6 +105,22 @@ impl Host {
             return Err(EndError::OutOfMemory);
         }
         let done = self.state.send(end, conn, payload, weight);
+        self.failed = is_want(&done);
+        done
+    }
+
+    /// Closes a connection: that is written, or waits behind what the connection has waiting. It is refused with
+    /// `NoConnection` where the endpoint has no such connection open, which leaves the host unchanged. After
+    /// `OutOfMemory` the host answers that for good.
+    pub fn close(&mut self, end: u32, conn: u64) -> Result<Vec<Step>, EndError>
+        ensures does { MatchResult result (λ steps. host_close self.old.state end conn ≡ Ok (steps.items, self.new.state)) (λ e. Fails e (host_close self.old.state end conn)) }
+        ensures err { IfErr result (λ e. Leaves self.old self.new e) }
+        ensures spent { self.old.failed ≡ true → IsErrOf result errors.OutOfMemory }
+    {
+        if self.failed {
+            return Err(EndError::OutOfMemory);
+        }
+        let done = self.state.close(end, conn);
         self.failed = is_want(&done);
         done
     }

@@ -6,6 +6,7 @@ ghost use Rattle.ch_model.specs.HostSteps.{is_link, new_link};
 ghost use Rattle.ch_model.specs.HostWrites.{is_counted as is_counted_of, counted_in, said_of, forgotten, frame_step as frame_step_of};
 ghost use Rattle.ch_light.specs.Ids.{IsFree, opened, id_of};
 ghost use Rattle.ch_model.specs.HostCalls.{carries};
+ghost use Rattle.ch_endpoint.specs.Waits.{closing};
 
 use ch_base::{Address, OutOfMemory, Text};
 use ch_light::{Incoming, Outgoing};
@@ -147,6 +148,16 @@ impl Link {
         match self.given.give(conn) {
             Ok(id) => Ok(id),
             Err(_) => Err(OutOfMemory),
+        }
+    }
+
+    /// A connection is closed, where it is open.
+    pub(crate) fn close(&mut self, conn: u64)
+        ensures { self.new ≡ closing conn self.old }
+    {
+        match self.given.close(conn) {
+            Ok(_) => {}
+            Err(_) => {}
         }
     }
 

@@ -7,7 +7,7 @@ ghost use Rattle.ch_model.specs.HostWrites.{is_counted, counted_in};
 ghost use Rattle.ch_light.specs.Ids.{IsFree};
 ghost use Rattle.ch_model.specs.HostCalls.{carries};
 ghost use Rattle.ch_endpoint.specs.Places.{IsPlaceOf};
-ghost use Rattle.ch_endpoint.specs.Waits.{giving, waiting, forgetting};
+ghost use Rattle.ch_endpoint.specs.Waits.{giving, waiting, forgetting, closing};
 
 use crate::link::{Link, Waiting};
 use ch_base::{Address, OutOfMemory};
@@ -156,5 +156,14 @@ impl Links {
             None => None,
             Some(place) => Some(&self.rows[place].peer),
         }
+    }
+
+    /// A connection of the link is closed, where it is open.
+    pub(crate) fn close(&mut self, end: u32, peer: &Address, conn: u64) -> Result<(), OutOfMemory>
+        ensures { OnOk result (self.new ≡ store_link (closing conn (link_or_new end peer.now (find (is_link end peer.now) self.old))) self.old) }
+    {
+        let place = self.made(end, peer)?;
+        self.rows[place].close(conn);
+        Ok(())
     }
 }

@@ -4,10 +4,12 @@ ghost use Rattle.std.specs.Prelude.{◌≡◌, ◌<◌, ◌≤◌, ◌&&◌, not
 ghost use Rattle.ch_wire.specs.declared.frame.Frame.TheVariants as frames;
 ghost use Rattle.ch_light.specs.Ids.{id_of as id_of_connection};
 ghost use Rattle.ch_model.specs.HostSteps.{link_with};
-ghost use Rattle.ch_model.specs.HostWrites.{is_up as is_up_of, is_counted as is_counted_of, counted_in};
-ghost use Rattle.ch_model.specs.HostCalls.{host_send, carries, stepped, puts_and_wants as puts_and_wants_of};
+ghost use Rattle.ch_model.specs.HostWrites.{is_up as is_up_of, is_counted as is_counted_of, counted_in, puts as puts_of};
+ghost use Rattle.ch_model.specs.HostCalls.{host_send, host_close, carries, stepped, puts_and_wants as puts_and_wants_of};
 ghost use Rattle.ch_model.specs.HostLinks.{most_dials};
 ghost use Rattle.ch_endpoint.specs.Places.{is_idle as is_idle_of};
+ghost use Rattle.ch_model.specs.declared.step.Weight.TheVariants.{Free};
+ghost use Rattle.ch_endpoint.specs.Waits.{closing};
 ghost use Rattle.ch_endpoint.specs.Calls.{Fails, KeepsBut};
 
 use crate::link::{Waiting, is_counted};
@@ -159,5 +161,69 @@ impl State {
             Ok(steps) => Ok(steps),
             Err(_) => Err(EndError::OutOfMemory),
         }
+    }
+
+    /// A connection is closed.
+    pub(crate) fn close(&mut self, end: u32, conn: u64) -> Result<Vec<Step>, EndError>
+        ensures does { MatchResult result (λ steps. host_close self.old end conn ≡ Ok (steps.items, self.new)) (λ e. Fails e (host_close self.old end conn)) }
+        ensures err { IfErr result (λ e. KeepsBut self.old self.new e) }
+    {
+        match self.carrier(end, conn) {
+            Ok(found) => self.closes_on(end, conn, found),
+            Err(_) => Err(EndError::OutOfMemory),
+        }
+    }
+
+    /// A connection is closed, which is open on the link with this peer, or on none.
+    #[tactic(auto, using(crate::proofs::Sending::close_none))]
+    fn closes_on(
+        &mut self,
+        end: u32,
+        conn: u64,
+        found: Option<Address>,
+    ) -> Result<Vec<Step>, EndError>
+        requires { MatchOption found (find (carries end conn) self.old.links ≡ None) (λ peer. find (carries end conn) self.old.links ≡ Some (link_with self.old end peer)) }
+        ensures does { MatchResult result (λ steps. host_close self.old end conn ≡ Ok (steps.items, self.new)) (λ e. Fails e (host_close self.old end conn)) }
+        ensures err { IfErr result (λ e. KeepsBut self.old self.new e) }
+    {
+        match found {
+            None => Err(EndError::NoConnection),
+            Some(peer) => self.closes_at(end, conn, &peer),
+        }
+    }
+
+    /// A connection is closed that is open on the link with this peer.
+    fn closes_at(&mut self, end: u32, conn: u64, peer: &Address) -> Result<Vec<Step>, EndError>
+        requires { find (carries end conn) self.old.links ≡ Some (link_with self.old end peer.now) }
+        ensures does { MatchResult result (λ steps. host_close self.old end conn ≡ Ok (steps.items, self.new)) (λ e. Fails e (host_close self.old end conn)) }
+        ensures err { IfErr result (λ e. KeepsBut self.old self.new e) }
+    {
+        let id = match self.id_of(end, peer, conn) {
+            None => return Err(EndError::NoConnection),
+            Some(id) => id,
+        };
+        match self.closes(end, conn, peer, id) {
+            Ok(steps) => Ok(steps),
+            Err(_) => Err(EndError::OutOfMemory),
+        }
+    }
+
+    /// A connection that has this id on the link is closed, and that is put.
+    fn closes(
+        &mut self,
+        end: u32,
+        conn: u64,
+        peer: &Address,
+        id: u32,
+    ) -> Result<Vec<Step>, OutOfMemory>
+        ensures { IfOk result (λ steps. puts_of (frames.Closed id, Free) (closing conn (link_with self.old end peer.now)) self.old ≡ Ok (steps.items, self.new)) }
+    {
+        self.links.close(end, peer, conn)?;
+        let item = Waiting {
+            frame: Frame::Closed(id),
+            weight: Weight::Free,
+        };
+        let steps = self.puts(end, peer, item)?;
+        Ok(steps)
     }
 }
