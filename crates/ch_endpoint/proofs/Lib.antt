@@ -3,3 +3,4 @@ pub mod Sends
 pub mod Heard
 pub mod Ended
 pub mod Sending
+pub mod Shutting

@@ -4,6 +4,7 @@ pub mod Calls
 pub mod Places
 pub mod Waits
 pub mod Users
+pub mod Shuts
 pub mod Asks
 pub mod Dialing
 pub mod Opens

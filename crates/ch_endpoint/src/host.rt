@@ -1,7 +1,7 @@
 //! The host's calls.
 
 ghost use Rattle.std.specs.Prelude.{◌≡◌, true, false, IfOk, IfErr, IsErr, IsErrOf, OnErr, MatchResult, Ok, Err};
-ghost use Rattle.ch_model.specs.HostCalls.{host_new, host_open, host_connect, host_send, host_close, host_room, host_timer_runs};
+ghost use Rattle.ch_model.specs.HostCalls.{host_new, host_open, host_connect, host_send, host_close, host_close_endpoint, host_room, host_timer_runs};
 ghost use Rattle.ch_light.specs.Ids.{IsFree};
 ghost use Rattle.ch_base.specs.declared.memory.Stop.TheVariants as stops;
 ghost use Rattle.ch_model.specs.declared.step.EndError.TheVariants as errors;
@@ -121,6 +121,21 @@ impl Host {
             return Err(EndError::OutOfMemory);
         }
         let done = self.state.close(end, conn);
+        self.failed = is_want(&done);
+        done
+    }
+
+    /// Closes an endpoint: its links are shut, and its node is told last. It is refused with `NoEndPoint` where the
+    /// endpoint isn't open, which leaves the host unchanged. After `OutOfMemory` the host answers that for good.
+    pub fn close_endpoint(&mut self, end: u32) -> Result<Vec<Step>, EndError>
+        ensures does { MatchResult result (λ steps. host_close_endpoint self.old.state end ≡ Ok (steps.items, self.new.state)) (λ e. Fails e (host_close_endpoint self.old.state end)) }
+        ensures err { IfErr result (λ e. Leaves self.old self.new e) }
+        ensures spent { self.old.failed ≡ true → IsErrOf result errors.OutOfMemory }
+    {
+        if self.failed {
+            return Err(EndError::OutOfMemory);
+        }
+        let done = self.state.close_endpoint(end);
         self.failed = is_want(&done);
         done
     }

@@ -5,6 +5,7 @@
 #![tactic(auto)]
 
 mod acts;
+mod closing;
 mod endpoint;
 mod events;
 mod host;

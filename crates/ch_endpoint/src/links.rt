@@ -7,6 +7,7 @@ ghost use Rattle.ch_model.specs.HostWrites.{is_counted, counted_in};
 ghost use Rattle.ch_light.specs.Ids.{IsFree};
 ghost use Rattle.ch_model.specs.HostCalls.{carries};
 ghost use Rattle.ch_endpoint.specs.Places.{IsPlaceOf};
+ghost use Rattle.ch_endpoint.specs.Shuts.{peers_of};
 ghost use Rattle.ch_endpoint.specs.Waits.{giving, waiting, forgetting, closing};
 
 use crate::link::{Link, Waiting};
@@ -166,4 +167,24 @@ impl Links {
         self.rows[place].close(conn);
         Ok(())
     }
+
+    /// The peers of an endpoint's links, in order of first use.
+    pub(crate) fn peers_of(&self, end: u32) -> Result<Vec<Address>, OutOfMemory>
+        ensures { IfOk result (λ peers. peers.items ≡ peers_of end self.now) }
+    {
+        peers_among(*self.rows.allocator(), end, self.rows.as_slice())
+    }
+}
+
+/// The peers of an endpoint's links among these, in order.
+fn peers_among(alloc: Global, end: u32, links: &[Link]) -> Result<Vec<Address>, OutOfMemory>
+    ensures { IfOk result (λ peers. peers.items ≡ peers_of end links.now) }
+{
+    let mut peers = Vec::new(alloc);
+    for link in links {
+        if link.end == end {
+            peers.push(link.peer.copy()?)?;
+        }
+    }
+    Ok(peers)
 }

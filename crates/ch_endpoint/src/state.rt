@@ -86,7 +86,7 @@ impl State {
         self.ends.iter().any(|endpoint| endpoint.number == end)
     }
 
-    fn is_open(&self, end: u32) -> bool
+    pub(crate) fn is_open(&self, end: u32) -> bool
         ensures { result ≡ list_any (is_open_endpoint end) self.now.ends }
     {
         self.ends
