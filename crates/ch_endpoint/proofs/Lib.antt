@@ -4,3 +4,4 @@ pub mod Heard
 pub mod Ended
 pub mod Sending
 pub mod Shutting
+pub mod Fronts

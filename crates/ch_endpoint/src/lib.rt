@@ -8,6 +8,7 @@ mod acts;
 mod closing;
 mod endpoint;
 mod events;
+mod front;
 mod host;
 mod link;
 mod links;
