@@ -1,5 +1,5 @@
 -- What a reader that begins with some bytes tells of their front.
-use Rattle.std.proofs.Common.{◌≡◌, ℕ, ◌-◌, List, [], Option, Some, None, Result, Ok, Err, refl, ap, sym, ◌∙◌, arith}
+use Rattle.std.proofs.Common.{◌≡◌, ℕ, ◌-◌, List, [], Option, None, Result, Ok, ap, sym, ◌∙◌, arith}
 use Rattle.ch_reader.specs.declared.item.Expected.{Expected}
 use Rattle.ch_reader.specs.declared.item.Item.{Item}
 use Rattle.ch_reader.specs.declared.item.ReaderError.{ReaderError}

@@ -1,10 +1,9 @@
 -- What a link does when it hears an input, in the parts that the code makes of it.
-use Rattle.std.proofs.Common.{◌≡◌, ℕ, Bool, true, false, List, [], ◌∷◌, ◌++◌, find, Option, Some, None, Result, Ok, Err, refl, ap, sym, ◌∙◌}
+use Rattle.std.proofs.Common.{◌≡◌, ℕ, Bool, true, false, List, [], ◌∷◌, ◌++◌, find, Ok, refl, ap, sym, ◌∙◌}
 use Rattle.std.proofs.lemmas.List.{append-nil}
 use Rattle.ch_base.specs.declared.address.Address.{Address}
 use Rattle.ch_base.specs.declared.event.Why.{Why}
 use Rattle.ch_base.specs.declared.event.Event.TheVariants as events
-use Rattle.ch_base.specs.declared.memory.Stop.{Stop}
 use Rattle.ch_link.specs.Table.{step_of}
 use Rattle.ch_link.specs.declared.LinkState.{LinkState}
 use Rattle.ch_link.specs.declared.LinkState.TheVariants.{Idle, Dialing, AwaitOther, Up}

@@ -1,7 +1,6 @@
 -- The links of an endpoint that are shut one after another.
-use Rattle.std.proofs.Common.{◌≡◌, ℕ, suc, ◌+◌, ◌<◌, Bool, true, false, cond, ◌==◌, List, [], ◌∷◌, ◌++◌, map, filter, length, drop, get_or, Option, Some, None, Result, Ok, Err, refl, ap, sym, ◌∙◌, append_assoc, add-one, drop-cons, arith}
+use Rattle.std.proofs.Common.{◌≡◌, ℕ, suc, ◌+◌, ◌<◌, Bool, true, false, cond, ◌==◌, List, [], ◌∷◌, ◌++◌, map, filter, length, drop, get_or, Some, None, Ok, Err, refl, ap, sym, ◌∙◌, append_assoc, add-one, drop-cons}
 use Rattle.ch_base.specs.declared.address.Address.{Address}
-use Rattle.ch_base.specs.declared.memory.Stop.{Stop}
 use Rattle.ch_link.specs.declared.LinkIn.TheVariants.{Shut}
 use Rattle.ch_model.specs.declared.step.Step.{Step}
 use Rattle.ch_model.specs.HostState.{Endpoint, Link, HostState}

@@ -1,5 +1,4 @@
 use Rattle.std.proofs.Common.{refl, ap, sym, ◌++◌, ◌∙◌}
-use Rattle.ch_model.specs.Stages.{Open}
 use Rattle.ch_model.specs.HostState.{Socket}
 use Rattle.ch_model.specs.HostSteps.{is_socket}
 use Rattle.ch_endpoint.specs.Ends.{fed_one}

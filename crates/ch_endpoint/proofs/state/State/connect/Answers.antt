@@ -1,4 +1,4 @@
-use Rattle.std.proofs.Common.{rules, ◌≡◌, ◌&&◌, nat_le, length, true, false, arith, sym, ◌∙◌}
+use Rattle.std.proofs.Common.{rules, ◌≡◌, ◌&&◌, nat_le, length, true, false}
 use Rattle.std.specs.List.{list_any}
 use Rattle.ch_model.specs.HostSteps.{is_open_endpoint, link_with}
 use Rattle.ch_model.specs.HostLinks.{most_dials}

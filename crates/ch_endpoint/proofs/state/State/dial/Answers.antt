@@ -1,4 +1,4 @@
-use Rattle.std.proofs.Common.{sym, ap, ◌*◌, ◌∙◌}
+use Rattle.std.proofs.Common.{ap, ◌*◌, ◌∙◌}
 use Rattle.ch_model.specs.HostSteps.{store_socket}
 use Rattle.ch_model.specs.HostLinks.{dialed}
 use Rattle.ch_endpoint.proofs.Sends.{wants_dial}

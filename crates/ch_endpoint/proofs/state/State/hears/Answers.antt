@@ -1,6 +1,4 @@
-use Rattle.std.proofs.Common.{ap, ◌∙◌}
 use Rattle.ch_model.specs.HostState.{Link}
-use Rattle.ch_endpoint.specs.Dialing.{dials}
 use Rattle.ch_endpoint.proofs.Heard.{hears_done, never_dials, with_links}
 use Rattle.ch_endpoint.proofs.state.State.hears.Goals as goal
 

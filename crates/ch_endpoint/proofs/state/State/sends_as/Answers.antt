@@ -1,6 +1,4 @@
 use Rattle.std.proofs.Common.{sym, ◌∙◌}
-use Rattle.ch_model.specs.HostWrites.{is_counted, is_up, counted_in}
-use Rattle.ch_model.specs.HostSteps.{link_with}
 use Rattle.ch_endpoint.proofs.Sending.{sent, sent_worn, may_wait}
 use Rattle.ch_endpoint.proofs.state.State.sends_as.Goals as goal
 

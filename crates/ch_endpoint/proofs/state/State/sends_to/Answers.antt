@@ -1,8 +1,4 @@
-use Rattle.std.proofs.Common.{rules, ◌≡◌, ◌<◌, ◌≤◌, ◌&&◌, not, nat_le, length, true, false, arith, sym, None, ◌∙◌}
-use Rattle.ch_light.specs.Ids.{id_of}
-use Rattle.ch_model.specs.HostState.{Link}
-use Rattle.ch_model.specs.HostSteps.{link_with}
-use Rattle.ch_model.specs.HostWrites.{is_counted, is_up, counted_in}
+use Rattle.std.proofs.Common.{◌<◌, ◌≤◌, length, arith, sym, ◌∙◌}
 use Rattle.ch_endpoint.proofs.Sending.{too_long, too_full, not_carried}
 use Rattle.ch_endpoint.proofs.state.State.sends_to.Goals as goal
 
