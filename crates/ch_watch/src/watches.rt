@@ -1,7 +1,8 @@
 //! The watches and names of a node.
 
-ghost use Rattle.std.specs.Prelude.{◌≡◌, ◌<◌, ◌+◌, ◌++◌, ◌∷◌, [], Ok, Err, MatchResult, IfOk, OnErr};
+ghost use Rattle.std.specs.Prelude.{◌≡◌, ◌<◌, ◌+◌, ◌++◌, ◌∷◌, [], find, Ok, Err, MatchResult, IfOk, OnErr};
 ghost use Rattle.std.specs.Option.{option_copied};
+ghost use Rattle.ch_watch.specs.Open.{has_number};
 
 use crate::ending::Ending;
 use crate::error::WatchError;
@@ -101,6 +102,14 @@ impl Watches {
         ensures { option_copied result ≡ waiting_of self.now owner number }
     {
         self.numbers.find_watch(owner, number)
+    }
+
+    /// What is open under a number, of whatever kind it is. It takes no memory.
+    /// Cost: the logarithm of the open numbers.
+    pub fn open(&self, number: u32) -> Option<&Waiting>
+        ensures { option_copied result ≡ find (has_number number) self.now.waiting }
+    {
+        self.numbers.find_number(number)
     }
 
     /// Keeps a watch on an own process. After `OutOfMemory` nothing is changed.
