@@ -48,6 +48,13 @@ impl Watches {
         }
     }
 
+    /// The number that is opened next. It takes no memory.
+    pub fn next(&self) -> u32
+        ensures { result ≡ self.now.next }
+    {
+        self.numbers.next()
+    }
+
     /// Opens the next number for an owner, and answers it. It stops as `Worn` exactly where the counter of
     /// numbers can't grow. After a stop nothing is changed.
     /// Cost: the logarithm of the open numbers, and a copy of the target.

@@ -78,7 +78,11 @@ impl State {
 
     /// The asking node is told the new id.
     #[tactic(auto, unfolding(ch_model::specs::NodeAsks::tell_spawned))]
-    pub(crate) fn tell_spawned(&mut self, question: &Ref, process: &ProcessId) -> Result<Outcome, Halt>
+    pub(crate) fn tell_spawned(
+        &mut self,
+        question: &Ref,
+        process: &ProcessId,
+    ) -> Result<Outcome, Halt>
         ensures { MatchResult result (λ acts. tell_spawned_of self.old question.now process.now ≡ Ok (acts.items, self.new)) (λ e. Halts e (tell_spawned_of self.old question.now process.now)) }
     {
         if self.is_here(&question.node) {

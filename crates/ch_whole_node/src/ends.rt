@@ -52,12 +52,7 @@ impl State {
 
     /// What is told of a process that is over and of its names, and which connections are closed.
     #[tactic(auto, unfolding(ch_model::specs::NodeEnds::farewell))]
-    fn farewell(
-        &self,
-        number: u32,
-        reason: &Reason,
-        names: &[Name],
-    ) -> Result<Outcome, OutOfMemory>
+    fn farewell(&self, number: u32, reason: &Reason, names: &[Name]) -> Result<Outcome, OutOfMemory>
         ensures { IfOk result (λ acts. acts.items ≡ farewell_of self.now number reason.now names.now) }
     {
         let process = self.id(number)?;

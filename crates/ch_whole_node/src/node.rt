@@ -1,18 +1,19 @@
 //! The node's calls.
 
-ghost use Rattle.std.specs.Prelude.{◌≡◌, true, false, IfErr, IsErrOf, MatchResult, Ok, Err};
+ghost use Rattle.std.specs.Prelude.{◌≡◌, true, false, IfOk, IfErr, IsErrOf, MatchResult, Ok, Err};
 ghost use Rattle.std.specs.Option.{option_copied};
-ghost use Rattle.ch_model.specs.Node.{node_new, node_make, node_event, node_life, node_waiting, node_args};
+ghost use Rattle.ch_model.specs.Node.{node_new, node_make, node_command, node_event, node_watched, node_life, node_waiting, node_args};
 ghost use Rattle.ch_model.specs.declared.command.CommandError.TheVariants as errors;
 ghost use Rattle.ch_model.specs.NodeActs.{stopping};
 ghost use Rattle.ch_whole_node.specs.Calls.{Fails, Leaves, is_stop_of};
 
 use crate::acts::Outcome;
 use crate::state::State;
-use ch_base::{Address, Event};
+use ch_base::{Address, Event, OutOfMemory, Room};
+use ch_ident::Ref;
 use ch_mail::Life;
 use ch_model::CommandError;
-use ch_static::Table;
+use ch_static::{Command, Table};
 use std::alloc::Global;
 use std::marker::Model;
 
@@ -56,6 +57,32 @@ impl Node {
         }
     }
 
+    /// A process asks for something, where the link to the node that it is directed to has this room.
+    /// In this order, it is refused with `Unknown` where the process wasn't made; `Dead` where it acts
+    /// no more, or `Hale` where it would fall and isn't doomed; `Unknown` where it sends to a process or
+    /// port of this node that wasn't made; `Long` where the payload has more than 65,536 bytes; `NoRef`
+    /// where no such watch of it is open; `Full` and `Spent` where the link has no room; `Empty` where no
+    /// such message waits; `Taken` and `NoName` by what stands for the name; `Worn` where a count can't
+    /// grow. After a stop, `OutOfMemory` or `Worn`, the node answers `OutOfMemory` for good; any other
+    /// refusal changes nothing.
+    pub fn command(
+        &mut self,
+        by: u32,
+        command: Command,
+        room: Room,
+    ) -> Result<Outcome, CommandError>
+        ensures does { MatchResult result (λ acts. node_command self.old.state by command room ≡ Ok (acts.items, self.new.state)) (λ e. Fails e (node_command self.old.state by command room)) }
+        ensures err { IfErr result (λ e. Leaves self.old self.new e) }
+        ensures spent { self.old.failed ≡ true → IsErrOf result errors.OutOfMemory }
+    {
+        if self.failed {
+            return Err(CommandError::OutOfMemory);
+        }
+        let done = self.state.command(by, command, room);
+        self.failed = is_stop(&done);
+        done
+    }
+
     /// What the node makes of an event of its endpoint. It stops with `Worn` exactly where a count
     /// that it would raise can't grow. After a stop the node answers `OutOfMemory` for good.
     pub fn event(&mut self, event: Event) -> Result<Outcome, CommandError>
@@ -92,6 +119,13 @@ impl Node {
         ensures { option_copied result ≡ node_life self.now.state process }
     {
         self.state.life(process)
+    }
+
+    /// The node of the target of a process's monitor or link, where that is open under a reference.
+    pub fn watched(&self, by: u32, watch: &Ref) -> Result<Option<Address>, OutOfMemory>
+        ensures { IfOk result (λ at. at ≡ node_watched self.now.state by watch.now) }
+    {
+        self.state.watched(by, watch)
     }
 
     /// How many messages wait for a process, 0 where it wasn't made. It takes no memory.

@@ -1,6 +1,7 @@
 //! The pairs of a node, in order of first use.
 
-ghost use Rattle.std.specs.Prelude.{◌≡◌, [], map, filter_map, IfOk, OnOk, MatchResult, Ok, position};
+ghost use Rattle.std.specs.Prelude.{◌≡◌, [], map, filter_map, IfOk, IfSome, OnOk, MatchResult, Ok, find, position, nat_le, length, slice_set, ◌<◌};
+ghost use Rattle.std.specs.Option.{option_copied};
 ghost use Rattle.ch_whole_node.specs.Calls.{Halts};
 ghost use Rattle.ch_model.specs.NodePairs.{is_pair, pair_of, with_pair, conns_by as conns_by_of, closed_pairs, conn_by as conn_by_of, closed_by as closed_by_of, in_place, rising as rising_of, lost_pairs};
 
@@ -8,7 +9,7 @@ use crate::halt::Halt;
 use crate::kept::Pair;
 use ch_base::{Address, OutOfMemory};
 use ch_static::Target;
-use std::alloc::Global;
+use std::alloc::{AllocError, Global};
 use std::marker::Model;
 use std::mem;
 
@@ -38,9 +39,16 @@ impl Pairs {
     }
 
     fn place(&self, by: u32, to: &Target) -> Option<usize>
-        ensures { result ≡ position (is_pair by to.now) self.now }
+        ensures place { result ≡ position (is_pair by to.now) self.now }
+        ensures within { IfSome result (λ i. i < length self.now) }
     {
         self.items.iter().position(|pair| pair.is_of(by, to))
+    }
+
+    fn known(&self, by: u32, to: &Target) -> Option<&Pair>
+        ensures { option_copied result ≡ find (is_pair by to.now) self.now }
+    {
+        self.items.iter().find(|pair| pair.is_of(by, to))
     }
 
     /// The pair of a process and a target.
@@ -48,20 +56,26 @@ impl Pairs {
     pub(crate) fn pair(&self, by: u32, to: &Target) -> Result<Pair, OutOfMemory>
         ensures { IfOk result (λ pair. pair ≡ pair_of self.now by to.now) }
     {
-        match self.items.iter().find(|pair| pair.is_of(by, to)) {
+        match self.known(by, to) {
             None => Ok(Pair::new(by, to.copy()?)),
             Some(pair) => pair.copy(),
         }
     }
 
+    fn replace(&mut self, place: usize, pair: Pair)
+        requires { place < length self.old }
+        ensures { self.new ≡ slice_set self.old place pair }
+    {
+        self.items[place] = pair;
+    }
+
     /// Puts a pair into its place, or after the others where it is new.
-    #[tactic(auto, using(crate::proofs::PairLists::set_at, crate::proofs::PairLists::added))]
     pub(crate) fn set(&mut self, pair: Pair) -> Result<(), OutOfMemory>
         ensures { OnOk result (self.new ≡ with_pair pair self.old) }
     {
         match self.place(pair.by, &pair.to) {
             None => self.items.push(pair)?,
-            Some(place) => self.items[place] = pair,
+            Some(place) => self.replace(place, pair),
         }
         Ok(())
     }
@@ -98,6 +112,7 @@ impl Pairs {
 }
 
 /// The pairs after the link with a peer failed.
+#[tactic(auto, using(crate::proofs::Losses::one_more, crate::proofs::Losses::stops))]
 fn lost_all(alloc: Global, pairs: Vec<Pair>, peer: &Address) -> Result<Vec<Pair>, Halt>
     ensures { MatchResult result (λ lost. lost_pairs peer.now pairs.items ≡ Ok lost.items) (λ e. Halts e (lost_pairs peer.now pairs.items)) }
 {
@@ -109,17 +124,13 @@ fn lost_all(alloc: Global, pairs: Vec<Pair>, peer: &Address) -> Result<Vec<Pair>
 }
 
 /// The open connections of a process, in order of its pairs.
-fn open_conns(alloc: Global, pairs: &[Pair], by: u32) -> Result<Vec<u64>, OutOfMemory>
+fn open_conns(alloc: Global, pairs: &[Pair], by: u32) -> Result<Vec<u64>, AllocError>
     ensures { IfOk result (λ conns. conns.items ≡ filter_map (conn_by_of by) pairs.now) }
 {
-    let mut conns = Vec::new(alloc);
-    for pair in pairs {
-        match pair.conn_by(by) {
-            None => {}
-            Some(conn) => conns.push(conn)?,
-        }
-    }
-    Ok(conns)
+    pairs
+        .iter()
+        .filter_map(|pair| pair.conn_by(by))
+        .collect(alloc)
 }
 
 /// The pairs after all connections of a process are closed.
@@ -133,11 +144,19 @@ fn closed_all(alloc: Global, pairs: Vec<Pair>, by: u32) -> Result<Vec<Pair>, Out
     Ok(closed)
 }
 
+/// The place of a number among rising ones, where it doesn't stand last.
+fn place_of(sorted: &[u64], number: u64) -> Option<usize>
+    ensures place { result ≡ position (λ other. nat_le number other) sorted.now }
+    ensures within { IfSome result (λ i. i < length sorted.now) }
+{
+    sorted.iter().position(|other| number <= *other)
+}
+
 /// Puts a number into its place among rising ones.
 fn place_in(sorted: &mut Vec<u64>, number: u64) -> Result<(), OutOfMemory>
     ensures { OnOk result (sorted.new.items ≡ in_place number sorted.old.items) }
 {
-    match sorted.iter().position(|other| number <= *other) {
+    match place_of(sorted, number) {
         None => sorted.push(number)?,
         Some(place) => sorted.insert(place, number)?,
     }

@@ -24,7 +24,7 @@ const MOST_WAITING: u32 = 4096;
 const MOST_OPENED: u32 = 65_535;
 
 /// A message's payload fits in one frame.
-#[tactic(auto, unfolding(ch_model::specs::NodeRoom::fitting), using(crate::proofs::Lengths::body_within))]
+#[tactic(auto, unfolding(ch_model::specs::NodeRoom::fitting))]
 pub(crate) fn fitting(to: &Target, message: &Message) -> Result<(), CommandError>
     ensures exact { Gives (λ _. tt) result (fitting_of (payload_of to.now message.now)) }
     ensures small { IfOk result (λ _. length message.now.body < 2 ^ 32) }

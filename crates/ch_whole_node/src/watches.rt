@@ -17,23 +17,23 @@ use ch_model::{Note, Weight};
 use ch_watch::{Kind, Waiting};
 
 /// Whether an answer for a number of the first kind is one for the second.
-fn answers(asked: Kind, open: Kind) -> bool
-    ensures { result ≡ answers_of asked open }
+fn answers(asked: Kind, kind: Kind) -> bool
+    ensures { result ≡ answers_of asked kind }
 {
     match asked {
-        Kind::Spawn => match open {
+        Kind::Spawn => match kind {
             Kind::Spawn => true,
             _ => false,
         },
-        Kind::Ask => match open {
+        Kind::Ask => match kind {
             Kind::Ask => true,
             _ => false,
         },
-        Kind::Monitor => match open {
+        Kind::Monitor => match kind {
             Kind::Monitor | Kind::Link => true,
             Kind::Spawn | Kind::Ask => false,
         },
-        Kind::Link => match open {
+        Kind::Link => match kind {
             Kind::Monitor | Kind::Link => true,
             Kind::Spawn | Kind::Ask => false,
         },
