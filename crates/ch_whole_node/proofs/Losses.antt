@@ -4,7 +4,11 @@ use Rattle.ch_base.specs.declared.address.Address.{Address}
 use Rattle.ch_base.specs.declared.memory.Stop.{Stop}
 use Rattle.ch_model.specs.NodeState.{Pair}
 use Rattle.ch_model.specs.NodeActs.{◌>>=◌}
+use Rattle.ch_base.specs.declared.memory.Stop.TheVariants as stops_of
 use Rattle.ch_model.specs.NodePairs.{lost_pair, lost_pairs}
+use Rattle.ch_whole_node.specs.declared.halt.Halt.{Halt}
+use Rattle.ch_whole_node.specs.declared.halt.Halt.TheVariants as halts
+use Rattle.ch_whole_node.specs.Calls.{Halts}
 
 -- these pairs in front of those, unless there is a stop before them
 abbrev pub both : Result (List Pair) Stop → Result (List Pair) Stop → Result (List Pair) Stop
@@ -37,3 +41,8 @@ one_more peer front left pair lost h at = appended peer front (pair ∷ []) ∙ 
 -- a stop at a pair is one of all
 pub stops : (peer : Address) (front left : List Pair) (pair : Pair) (rest : List Pair) (e : Stop) → lost_pairs peer front ≡ Ok left → lost_pair peer pair ≡ Err e → lost_pairs peer (front ++ pair ∷ rest) ≡ Err e
 stops peer front left pair rest e h at = appended peer front (pair ∷ rest) ∙ ap (λ q. both q (lost_pairs peer (pair ∷ rest))) h ∙ ap (λ r. both (Ok left) (r >>= (λ lost. lost_pairs peer rest >>= (λ others. Ok (lost ∷ others))))) at
+
+-- a stop at a pair is told as one of all
+pub halted : (peer : Address) (front left : List Pair) (pair : Pair) (rest whole : List Pair) (e : Halt) → front ++ pair ∷ rest ≡ whole → lost_pairs peer front ≡ Ok left → Halts e (lost_pair peer pair) → Halts e (lost_pairs peer whole)
+halted peer front left pair rest whole halts.OutOfMemory is h at = tt
+halted peer front left pair rest whole halts.Worn is h at = ap (lost_pairs peer) (sym is) ∙ stops peer front left pair rest stops_of.Worn h at

@@ -1,9 +1,22 @@
 -- A pair's place in the list of pairs.
-use Rattle.std.proofs.Common.{◌≡◌, ℕ, ◌+◌, Bool, true, false, cond, List, [], ◌∷◌, ◌++◌, length, not, position, Option, Some, None, refl, sym, ap, ◌∙◌}
+use Rattle.std.proofs.Common.{◌≡◌, ℕ, ◌+◌, Bool, true, false, cond, List, [], ◌∷◌, ◌++◌, length, not, Option, Some, None, refl, sym, ap, ◌∙◌, arith}
+use Rattle.std.proofs.lemmas.Bool.Decides.{nat_tests}
 use Rattle.std.specs.Prelude.{nat_lt, slice_set}
-use Rattle.std.specs.List.{position_or_len}
+use Rattle.std.specs.List.{position, position_or_len}
 use Rattle.ch_model.specs.NodeState.{Pair}
 use Rattle.ch_model.specs.NodePairs.{is_pair, with_pair}
+
+first : (len : ℕ) → nat_lt 0 (1 + len) ≡ true
+first len = grind (arith, nat_tests)
+
+shifted : (k len : ℕ) → nat_lt (1 + k) (1 + len) ≡ nat_lt k len
+shifted k len = both (nat_lt (1 + k) (1 + len)) (nat_lt k len) refl refl
+  where
+    both : (x y : Bool) → nat_lt (1 + k) (1 + len) ≡ x → nat_lt k len ≡ y → x ≡ y
+    both true true p q = refl
+    both true false p q = grind (arith, nat_tests)
+    both false true p q = grind (arith, nat_tests)
+    both false false p q = refl
 
 -- where a pair goes, by the place where it stands
 abbrev pub put_at : Pair → List Pair → Option ℕ → List Pair
@@ -20,8 +33,8 @@ placed pair (known ∷ others) = at_front (is_pair pair.by pair.to known) (posit
     past false n h = ap (λ l. known ∷ l) h
 
     at_front : (b : Bool) (n len : ℕ) → put_at pair others (cond (nat_lt n len) (Some n) None) ≡ with_pair pair others → put_at pair (known ∷ others) (cond (nat_lt (cond (not b) (1 + n) 0) (1 + len)) (Some (cond (not b) (1 + n) 0)) None) ≡ cond b (pair ∷ others) (known ∷ with_pair pair others)
-    at_front true n len h = refl
-    at_front false n len h = past (nat_lt n len) n h
+    at_front true n len h = ap (λ c. put_at pair (known ∷ others) (cond c (Some 0) None)) (first len)
+    at_front false n len h = ap (λ c. put_at pair (known ∷ others) (cond c (Some (1 + n)) None)) (shifted n len) ∙ past (nat_lt n len) n h
 
 -- a new pair stands after the others
 pub added : (pair : Pair) (pairs : List Pair) → None ≡ position (is_pair pair.by pair.to) pairs → pairs ++ pair ∷ [] ≡ with_pair pair pairs

@@ -8,7 +8,7 @@ ghost use Rattle.ch_whole_node.specs.Bindings.{bound_of};
 ghost use Rattle.ch_whole_node.specs.Calls.{Halts};
 
 use crate::acts::Outcome;
-use crate::arrived::{Arrived, Binding, drop_conn, rebound_all};
+use crate::arrived::{Arrived, Binding, drop_conn, on_conn, rebound_all};
 use crate::halt::Halt;
 use crate::same::{node_of, same_node};
 use crate::state::State;
@@ -166,7 +166,7 @@ impl State {
     fn arrived_on(&self, conn: u64) -> Result<Option<Arrived>, OutOfMemory>
         ensures { IfOk result (λ a. a ≡ find (λ arrived. arrived.conn == conn) self.now.arrived) }
     {
-        match self.arrived.iter().find(|arrived| arrived.conn == conn) {
+        match on_conn(&self.arrived, conn) {
             None => Ok(None),
             Some(arrived) => Ok(Some(arrived.copy()?)),
         }

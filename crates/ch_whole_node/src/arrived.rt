@@ -1,6 +1,7 @@
 //! A connection that arrived.
 
-ghost use Rattle.std.specs.Prelude.{◌≡◌, ◌==◌, not, map, filter, IfOk};
+ghost use Rattle.std.specs.Prelude.{◌≡◌, ◌==◌, not, map, filter, find, IfOk};
+ghost use Rattle.std.specs.Option.{option_copied};
 ghost use Rattle.ch_watch.specs.Same.{same_node as same_node_of};
 ghost use Rattle.ch_model.specs.NodeArrivals.{rebound as rebound_of};
 ghost use Rattle.ch_whole_node.specs.Bindings.{bound_of};
@@ -100,6 +101,13 @@ pub(crate) fn rebound_all(
         bound.push(one.rebound(conn, binding)?)?;
     }
     Ok(bound)
+}
+
+/// The connection of that number.
+pub(crate) fn on_conn(arrived: &[Arrived], conn: u64) -> Option<&Arrived>
+    ensures { option_copied result ≡ find (λ arrived. arrived.conn == conn) arrived.now }
+{
+    arrived.iter().find(|arrived| arrived.conn == conn)
 }
 
 /// The connection of that number is gone.

@@ -1,14 +1,15 @@
 //! What a node makes of each command of its processes.
 
-ghost use Rattle.std.specs.Prelude.{◌≡◌, MatchResult, IfErr, Ok};
+ghost use Rattle.std.specs.Prelude.{◌≡◌, MatchResult, IfErr, IfOk, Ok};
 ghost use Rattle.ch_ident.specs.declared.node_message.NodeMessage.TheVariants.{Exit as ExitMessage, Kill as KillMessage};
-ghost use Rattle.ch_model.specs.Node.{node_command};
+ghost use Rattle.ch_model.specs.Node.{node_command, target_node as target_node_of};
 ghost use Rattle.ch_model.specs.NodeRequests.{doom_by};
 ghost use Rattle.ch_whole_node.specs.Calls.{Fails, KeepsBut};
 
 use crate::acts::Outcome;
+use crate::ids::target_at;
 use crate::state::State;
-use ch_base::{Room, Text};
+use ch_base::{Address, OutOfMemory, Room, Text};
 use ch_ident::{NodeMessage, ProcessId, Reason};
 use ch_model::CommandError;
 use ch_static::Command;
@@ -74,6 +75,28 @@ impl State {
             Command::Register { name } => self.register_by(by, name),
             Command::Unregister { name } => self.unregister_by(by, name),
             Command::WhereIs { at, name } => self.whereis_by(by, &at, name, room),
+        }
+    }
+
+    /// The node whose room a command needs: the one that it is directed to, if to any.
+    #[tactic(auto, unfolding(ch_model::specs::Node::target_node))]
+    pub(crate) fn target_node(
+        &self,
+        by: u32,
+        command: &Command,
+    ) -> Result<Option<Address>, OutOfMemory>
+        ensures { IfOk result (λ at. at ≡ target_node_of self.now by command.now) }
+    {
+        match command {
+            Command::Send { to, .. } => Ok(Some(target_at(to).copy()?)),
+            Command::Monitor { target } => Ok(Some(target.node.copy()?)),
+            Command::Link { target } => Ok(Some(target.node.copy()?)),
+            Command::Unwatch { watch } => self.watched(by, watch),
+            Command::Exit { target, .. } => Ok(Some(target.node.copy()?)),
+            Command::Kill { target, .. } => Ok(Some(target.node.copy()?)),
+            Command::Spawn { at, .. } => Ok(Some(at.copy()?)),
+            Command::WhereIs { at, .. } => Ok(Some(at.copy()?)),
+            _ => Ok(None),
         }
     }
 }

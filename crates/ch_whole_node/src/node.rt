@@ -2,7 +2,7 @@
 
 ghost use Rattle.std.specs.Prelude.{◌≡◌, true, false, IfOk, IfErr, IsErrOf, MatchResult, Ok, Err};
 ghost use Rattle.std.specs.Option.{option_copied};
-ghost use Rattle.ch_model.specs.Node.{node_new, node_make, node_command, node_event, node_watched, node_life, node_waiting, node_args};
+ghost use Rattle.ch_model.specs.Node.{node_new, node_make, node_command, node_event, node_watched, target_node as target_node_of, node_life, node_waiting, node_args};
 ghost use Rattle.ch_model.specs.declared.command.CommandError.TheVariants as errors;
 ghost use Rattle.ch_model.specs.NodeActs.{stopping};
 ghost use Rattle.ch_whole_node.specs.Calls.{Fails, Leaves, is_stop_of};
@@ -126,6 +126,13 @@ impl Node {
         ensures { IfOk result (λ at. at ≡ node_watched self.now.state by watch.now) }
     {
         self.state.watched(by, watch)
+    }
+
+    /// The node whose room a command needs: the one that it is directed to, if to any.
+    pub fn target_node(&self, by: u32, command: &Command) -> Result<Option<Address>, OutOfMemory>
+        ensures { IfOk result (λ at. at ≡ target_node_of self.now.state by command.now) }
+    {
+        self.state.target_node(by, command)
     }
 
     /// How many messages wait for a process, 0 where it wasn't made. It takes no memory.

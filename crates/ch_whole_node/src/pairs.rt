@@ -112,7 +112,7 @@ impl Pairs {
 }
 
 /// The pairs after the link with a peer failed.
-#[tactic(auto, using(crate::proofs::Losses::one_more, crate::proofs::Losses::stops))]
+#[tactic(auto, using(crate::proofs::Losses::one_more, crate::proofs::Losses::halted))]
 fn lost_all(alloc: Global, pairs: Vec<Pair>, peer: &Address) -> Result<Vec<Pair>, Halt>
     ensures { MatchResult result (λ lost. lost_pairs peer.now pairs.items ≡ Ok lost.items) (λ e. Halts e (lost_pairs peer.now pairs.items)) }
 {
