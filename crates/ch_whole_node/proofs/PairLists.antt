@@ -1,10 +1,13 @@
 -- A pair's place in the list of pairs.
-use Rattle.std.proofs.Common.{◌≡◌, ℕ, ◌+◌, Bool, true, false, cond, List, [], ◌∷◌, ◌++◌, length, not, Option, Some, None, refl, sym, ap, ◌∙◌, arith}
+use Rattle.std.proofs.Common.{◌≡◌, ℕ, suc, ◌+◌, Bool, true, false, cond, List, [], ◌∷◌, ◌++◌, length, not, Option, Some, None, refl, sym, ap, ◌∙◌, arith}
 use Rattle.std.proofs.lemmas.Bool.Decides.{nat_tests}
 use Rattle.std.specs.Prelude.{nat_lt, slice_set}
 use Rattle.std.specs.List.{position, position_or_len}
 use Rattle.ch_model.specs.NodeState.{Pair}
 use Rattle.ch_model.specs.NodePairs.{is_pair, with_pair}
+
+one : (n : ℕ) → 1 + n ≡ suc n
+one n = omega arith
 
 first : (len : ℕ) → nat_lt 0 (1 + len) ≡ true
 first len = grind (arith, nat_tests)
@@ -29,7 +32,7 @@ placed pair [] = refl
 placed pair (known ∷ others) = at_front (is_pair pair.by pair.to known) (position_or_len (is_pair pair.by pair.to) others) (length others) (placed pair others)
   where
     past : (c : Bool) (n : ℕ) → put_at pair others (cond c (Some n) None) ≡ with_pair pair others → put_at pair (known ∷ others) (cond c (Some (1 + n)) None) ≡ known ∷ with_pair pair others
-    past true n h = ap (λ l. known ∷ l) h
+    past true n h = ap (λ k. slice_set (known ∷ others) k pair) (one n) ∙ ap (λ l. known ∷ l) h
     past false n h = ap (λ l. known ∷ l) h
 
     at_front : (b : Bool) (n len : ℕ) → put_at pair others (cond (nat_lt n len) (Some n) None) ≡ with_pair pair others → put_at pair (known ∷ others) (cond (nat_lt (cond (not b) (1 + n) 0) (1 + len)) (Some (cond (not b) (1 + n) 0)) None) ≡ cond b (pair ∷ others) (known ∷ with_pair pair others)

@@ -1,9 +1,12 @@
 -- A number's place among rising ones.
-use Rattle.std.proofs.Common.{◌≡◌, ℕ, ◌+◌, Bool, true, false, cond, List, [], ◌∷◌, ◌++◌, length, not, Option, Some, None, refl, sym, ap, ◌∙◌, arith}
+use Rattle.std.proofs.Common.{◌≡◌, ℕ, suc, ◌+◌, Bool, true, false, cond, List, [], ◌∷◌, ◌++◌, length, not, Option, Some, None, refl, sym, ap, ◌∙◌, arith}
 use Rattle.std.proofs.lemmas.Bool.Decides.{nat_tests}
 use Rattle.std.specs.Prelude.{nat_lt, nat_le}
 use Rattle.std.specs.List.{position, position_or_len, insert}
 use Rattle.ch_model.specs.NodePairs.{in_place}
+
+one : (n : ℕ) → 1 + n ≡ suc n
+one n = omega arith
 
 first : (len : ℕ) → nat_lt 0 (1 + len) ≡ true
 first len = grind (arith, nat_tests)
@@ -28,7 +31,7 @@ placed n [] = refl
 placed n (m ∷ rest) = at_front (nat_le n m) (position_or_len (λ m. nat_le n m) rest) (length rest) (placed n rest)
   where
     past : (c : Bool) (k : ℕ) → put_at n rest (cond c (Some k) None) ≡ in_place n rest → put_at n (m ∷ rest) (cond c (Some (1 + k)) None) ≡ m ∷ in_place n rest
-    past true k h = ap (λ l. m ∷ l) h
+    past true k h = ap (λ i. insert (m ∷ rest) i n) (one k) ∙ ap (λ l. m ∷ l) h
     past false k h = ap (λ l. m ∷ l) h
 
     at_front : (b : Bool) (k len : ℕ) → put_at n rest (cond (nat_lt k len) (Some k) None) ≡ in_place n rest → put_at n (m ∷ rest) (cond (nat_lt (cond (not b) (1 + k) 0) (1 + len)) (Some (cond (not b) (1 + k) 0)) None) ≡ cond b (n ∷ m ∷ rest) (m ∷ in_place n rest)

@@ -21,7 +21,7 @@ use crate::halt::Halt;
 use crate::same::node_of;
 use crate::spelled::spelled;
 use crate::state::State;
-use ch_base::{Address, OutOfMemory, Room};
+use ch_base::{Address, OutOfMemory, Room, Text};
 use ch_ident::{Identifier, Name, NodeMessage, ProcessId, Ref};
 use ch_model::{CommandError, Note};
 use ch_static::Closure;
@@ -272,20 +272,24 @@ impl State {
         }
     }
 
-    /// What asks for a spawn fits in one frame.
-    #[tactic(auto, unfolding(ch_model::specs::NodeRoom::fitting))]
-    fn spawn_fits(&self, closure: &Closure) -> Result<(), CommandError>
-        ensures { Gives (λ _. tt) result (fitting_of (message_spelling (SpawnMessage (reference_to self.now self.now.watches.next) closure.now.label closure.now.args))) }
+    /// The one spelling of what would ask for a spawn next.
+    fn spawn_payload(&self, closure: &Closure) -> Result<Text, OutOfMemory>
+        ensures { IfOk result (λ text. text ≡ message_spelling (SpawnMessage (reference_to self.now self.now.watches.next) closure.now.label closure.now.args)) }
     {
-        if closure.args.len() > MOST_PAYLOAD_BYTES as usize {
-            return Err(CommandError::Long);
-        }
         let said = NodeMessage::Spawn {
             question: self.reference(self.watches.next())?,
             label: closure.label.copy()?,
             args: closure.args.copy()?,
         };
-        let payload = spelled(self.alloc(), &said)?;
+        spelled(self.alloc(), &said)
+    }
+
+    /// What asks for a spawn fits in one frame.
+    #[tactic(auto, unfolding(ch_model::specs::NodeRoom::fitting))]
+    fn spawn_fits(&self, closure: &Closure) -> Result<(), CommandError>
+        ensures { Gives (λ _. tt) result (fitting_of (message_spelling (SpawnMessage (reference_to self.now self.now.watches.next) closure.now.label closure.now.args))) }
+    {
+        let payload = self.spawn_payload(closure)?;
         if payload.len() > MOST_PAYLOAD_BYTES as usize {
             return Err(CommandError::Long);
         }
