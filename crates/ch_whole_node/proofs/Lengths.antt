@@ -21,9 +21,8 @@ body_within (targets.Process process) message = last (short message.mark) messag
 body_within (targets.Port port) message = last (short message.mark) message.body
 body_within (targets.Named at name) message =
     let spelled : length message.body ≤ length (number (length message.body) ++ message.body) = last (number (length message.body)) message.body in
-    let marked : length (long message.body) ≤ length (short message.mark ++ long message.body) = last (short message.mark) (long message.body) in
-    let named : length (short message.mark ++ long message.body) ≤ length (short name ++ short message.mark ++ long message.body) = last (short name) (short message.mark ++ long message.body) in
-    omega (arith, spelled, marked, named)
+    let named : length (long message.body) ≤ length (short name ++ short message.mark ++ long message.body) = last (short name ++ short message.mark) (long message.body) in
+    omega (arith, spelled, named)
 
 over : (n : ℕ) → longest < n → nat_le n longest ≡ false
 over n h = grind (arith, nat_tests)

@@ -9,13 +9,13 @@ use Rattle.ch_model.specs.NodePairs.{is_pair, with_pair}
 one : (n : ℕ) → 1 + n ≡ suc n
 one n = omega arith
 
-first : (len : ℕ) → nat_lt 0 (1 + len) ≡ true
+first : (len : ℕ) → nat_lt 0 (suc len) ≡ true
 first len = grind (arith, nat_tests)
 
-shifted : (k len : ℕ) → nat_lt (1 + k) (1 + len) ≡ nat_lt k len
-shifted k len = both (nat_lt (1 + k) (1 + len)) (nat_lt k len) refl refl
+shifted : (k len : ℕ) → nat_lt (1 + k) (suc len) ≡ nat_lt k len
+shifted k len = both (nat_lt (1 + k) (suc len)) (nat_lt k len) refl refl
   where
-    both : (x y : Bool) → nat_lt (1 + k) (1 + len) ≡ x → nat_lt k len ≡ y → x ≡ y
+    both : (x y : Bool) → nat_lt (1 + k) (suc len) ≡ x → nat_lt k len ≡ y → x ≡ y
     both true true p q = refl
     both true false p q = grind (arith, nat_tests)
     both false true p q = grind (arith, nat_tests)
@@ -35,7 +35,7 @@ placed pair (known ∷ others) = at_front (is_pair pair.by pair.to known) (posit
     past true n h = ap (λ k. slice_set (known ∷ others) k pair) (one n) ∙ ap (λ l. known ∷ l) h
     past false n h = ap (λ l. known ∷ l) h
 
-    at_front : (b : Bool) (n len : ℕ) → put_at pair others (cond (nat_lt n len) (Some n) None) ≡ with_pair pair others → put_at pair (known ∷ others) (cond (nat_lt (cond (not b) (1 + n) 0) (1 + len)) (Some (cond (not b) (1 + n) 0)) None) ≡ cond b (pair ∷ others) (known ∷ with_pair pair others)
+    at_front : (b : Bool) (n len : ℕ) → put_at pair others (cond (nat_lt n len) (Some n) None) ≡ with_pair pair others → put_at pair (known ∷ others) (cond (nat_lt (cond (not b) (1 + n) 0) (suc len)) (Some (cond (not b) (1 + n) 0)) None) ≡ cond b (pair ∷ others) (known ∷ with_pair pair others)
     at_front true n len h = ap (λ c. put_at pair (known ∷ others) (cond c (Some 0) None)) (first len)
     at_front false n len h = ap (λ c. put_at pair (known ∷ others) (cond c (Some (1 + n)) None)) (shifted n len) ∙ past (nat_lt n len) n h
 

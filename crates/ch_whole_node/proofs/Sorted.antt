@@ -8,13 +8,13 @@ use Rattle.ch_model.specs.NodePairs.{in_place}
 one : (n : ℕ) → 1 + n ≡ suc n
 one n = omega arith
 
-first : (len : ℕ) → nat_lt 0 (1 + len) ≡ true
+first : (len : ℕ) → nat_lt 0 (suc len) ≡ true
 first len = grind (arith, nat_tests)
 
-shifted : (k len : ℕ) → nat_lt (1 + k) (1 + len) ≡ nat_lt k len
-shifted k len = both (nat_lt (1 + k) (1 + len)) (nat_lt k len) refl refl
+shifted : (k len : ℕ) → nat_lt (1 + k) (suc len) ≡ nat_lt k len
+shifted k len = both (nat_lt (1 + k) (suc len)) (nat_lt k len) refl refl
   where
-    both : (x y : Bool) → nat_lt (1 + k) (1 + len) ≡ x → nat_lt k len ≡ y → x ≡ y
+    both : (x y : Bool) → nat_lt (1 + k) (suc len) ≡ x → nat_lt k len ≡ y → x ≡ y
     both true true p q = refl
     both true false p q = grind (arith, nat_tests)
     both false true p q = grind (arith, nat_tests)
@@ -34,7 +34,7 @@ placed n (m ∷ rest) = at_front (nat_le n m) (position_or_len (λ m. nat_le n m
     past true k h = ap (λ i. insert (m ∷ rest) i n) (one k) ∙ ap (λ l. m ∷ l) h
     past false k h = ap (λ l. m ∷ l) h
 
-    at_front : (b : Bool) (k len : ℕ) → put_at n rest (cond (nat_lt k len) (Some k) None) ≡ in_place n rest → put_at n (m ∷ rest) (cond (nat_lt (cond (not b) (1 + k) 0) (1 + len)) (Some (cond (not b) (1 + k) 0)) None) ≡ cond b (n ∷ m ∷ rest) (m ∷ in_place n rest)
+    at_front : (b : Bool) (k len : ℕ) → put_at n rest (cond (nat_lt k len) (Some k) None) ≡ in_place n rest → put_at n (m ∷ rest) (cond (nat_lt (cond (not b) (1 + k) 0) (suc len)) (Some (cond (not b) (1 + k) 0)) None) ≡ cond b (n ∷ m ∷ rest) (m ∷ in_place n rest)
     at_front true k len h = ap (λ c. put_at n (m ∷ rest) (cond c (Some 0) None)) (first len)
     at_front false k len h = ap (λ c. put_at n (m ∷ rest) (cond c (Some (1 + k)) None)) (shifted k len) ∙ past (nat_lt k len) k h
 

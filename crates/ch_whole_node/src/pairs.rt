@@ -105,22 +105,26 @@ impl Pairs {
         ensures { MatchResult result (λ _. lost_pairs peer.now self.old ≡ Ok self.new) (λ e. Halts e (lost_pairs peer.now self.old)) }
     {
         let alloc = *self.items.allocator();
-        let items = mem::replace(&mut self.items, Vec::new(alloc));
-        self.items = lost_all(alloc, items, peer)?;
+        self.items = lost_all(alloc, &self.items, peer)?;
         Ok(())
     }
 }
 
 /// The pairs after the link with a peer failed.
-#[tactic(auto, using(crate::proofs::Losses::one_more, crate::proofs::Losses::halted))]
-fn lost_all(alloc: Global, pairs: Vec<Pair>, peer: &Address) -> Result<Vec<Pair>, Halt>
-    ensures { MatchResult result (λ lost. lost_pairs peer.now pairs.items ≡ Ok lost.items) (λ e. Halts e (lost_pairs peer.now pairs.items)) }
+fn lost_all(alloc: Global, pairs: &[Pair], peer: &Address) -> Result<Vec<Pair>, Halt>
+    ensures { MatchResult result (λ lost. lost_pairs peer.now pairs.now ≡ Ok lost.items) (λ e. Halts e (lost_pairs peer.now pairs.now)) }
 {
-    let mut lost = Vec::new(alloc);
-    for pair in pairs {
-        lost.push(pair.lost(peer)?)?;
+    match pairs {
+        [] => Ok(Vec::new(alloc)),
+        [pair, rest @ ..] => {
+            let lost = pair.copy()?.lost(peer)?;
+            let mut others = lost_all(alloc, rest, peer)?;
+            let mut all = Vec::new(alloc);
+            all.push(lost)?;
+            all.append(&mut others)?;
+            Ok(all)
+        }
     }
-    Ok(lost)
 }
 
 /// The open connections of a process, in order of its pairs.
