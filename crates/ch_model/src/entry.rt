@@ -1,6 +1,7 @@
 //! The entries of a log.
 
 ghost use Rattle.std.specs.Prelude.{◌≡◌, IfOk};
+ghost use Rattle.ch_model.specs.declared.entry.Entry.TheVariants as entries;
 
 use crate::name::{End, ProcName, RefName, SockName, TargetName};
 use ch_base::{OutOfMemory, Text, Why};
@@ -226,22 +227,18 @@ pub enum Entry {
 impl Entry {
     /// An equal entry.
     pub fn copy(&self) -> Result<Entry, OutOfMemory>
-        ensures { IfOk result (λ entry. entry ≡ self.now) }
+        ensures { IfOk result (λ copied. copied ≡ self.now) }
     {
-        Ok(match self {
-            Entry::Line { number, answer } => Entry::Line {
+        match self {
+            Entry::Line { number, answer } => Ok(Entry::Line {
                 number: *number,
                 answer: *answer,
-            },
+            }),
             Entry::Made {
                 process,
                 spawn,
                 label,
-            } => Entry::Made {
-                process: process.copy()?,
-                spawn: copy_reference(spawn)?,
-                label: copy_name(label)?,
-            },
+            } => made_copied(process, spawn, label),
             Entry::Said {
                 by,
                 to,
@@ -249,150 +246,60 @@ impl Entry {
                 index,
                 mark,
                 body,
-            } => Entry::Said {
-                by: by.copy()?,
-                to: to.copy()?,
-                epoch: *epoch,
-                index: *index,
-                mark: mark.copy()?,
-                body: body.copy()?,
-            },
-            Entry::Again { by, to, epoch } => Entry::Again {
-                by: by.copy()?,
-                to: to.copy()?,
-                epoch: *epoch,
-            },
+            } => said_copied(by, to, *epoch, *index, mark, body),
+            Entry::Again { by, to, epoch } => again_copied(by, to, *epoch),
             Entry::Got {
                 by,
                 to,
                 epoch,
                 index,
                 receiver,
-            } => Entry::Got {
-                by: by.copy()?,
-                to: to.copy()?,
-                epoch: *epoch,
-                index: *index,
-                receiver: copy_process(receiver)?,
-            },
+            } => got_copied(by, to, *epoch, *index, receiver),
             Entry::Took {
                 by,
                 port,
                 mark,
                 body,
-            } => Entry::Took {
-                by: by.copy()?,
-                port: *port,
-                mark: mark.copy()?,
-                body: body.copy()?,
-            },
-            Entry::Port { process, port } => Entry::Port {
-                process: process.copy()?,
-                port: *port,
-            },
-            Entry::Over { process, reason } => Entry::Over {
-                process: process.copy()?,
-                reason: reason.copy()?,
-            },
-            Entry::Doom { process, text } => Entry::Doom {
-                process: process.copy()?,
-                text: text.copy()?,
-            },
+            } => took_copied(by, *port, mark, body),
+            Entry::Port { process, port } => port_copied(process, *port),
+            Entry::Over { process, reason } => over_copied(process, reason),
+            Entry::Doom { process, text } => doom_copied(process, text),
             Entry::Watch {
                 watch,
                 by,
                 target,
                 kind,
-            } => Entry::Watch {
-                watch: watch.copy()?,
-                by: by.copy()?,
-                target: target.copy()?,
-                kind: *kind,
-            },
-            Entry::Unwatch { watch } => Entry::Unwatch {
-                watch: watch.copy()?,
-            },
-            Entry::Absent { watch } => Entry::Absent {
-                watch: watch.copy()?,
-            },
-            Entry::Told { watch, reason } => Entry::Told {
-                watch: watch.copy()?,
-                reason: reason.copy()?,
-            },
-            Entry::Asked { question, by, at } => Entry::Asked {
-                question: question.copy()?,
-                by: by.copy()?,
-                at: at.copy()?,
-            },
-            Entry::Spawned { question, process } => Entry::Spawned {
-                question: question.copy()?,
-                process: process.copy()?,
-            },
-            Entry::Isat { question, found } => Entry::Isat {
-                question: question.copy()?,
-                found: copy_process(found)?,
-            },
+            } => watch_copied(watch, by, target, *kind),
+            Entry::Unwatch { watch } => unwatch_copied(watch),
+            Entry::Absent { watch } => absent_copied(watch),
+            Entry::Told { watch, reason } => told_copied(watch, reason),
+            Entry::Asked { question, by, at } => asked_copied(question, by, at),
+            Entry::Spawned { question, process } => spawned_copied(question, process),
+            Entry::Isat { question, found } => isat_copied(question, found),
             Entry::Named {
                 node,
                 name,
                 process,
-            } => Entry::Named {
-                node: node.copy()?,
-                name: name.copy()?,
-                process: copy_process(process)?,
-            },
-            Entry::Shut { node } => Entry::Shut { node: node.copy()? },
-            Entry::Dial { sock } => Entry::Dial { sock: sock.copy()? },
-            Entry::Knocked { sock } => Entry::Knocked { sock: sock.copy()? },
-            Entry::Poked { sock, bytes } => Entry::Poked {
-                sock: sock.copy()?,
-                bytes: bytes.copy()?,
-            },
-            Entry::Quitted { sock } => Entry::Quitted { sock: sock.copy()? },
-            Entry::Joined { sock } => Entry::Joined { sock: sock.copy()? },
-            Entry::Came { sock } => Entry::Came { sock: sock.copy()? },
-            Entry::Refused { sock } => Entry::Refused { sock: sock.copy()? },
-            Entry::Cut { sock, end } => Entry::Cut {
-                sock: sock.copy()?,
-                end: *end,
-            },
-            Entry::Lost { sock, end } => Entry::Lost {
-                sock: sock.copy()?,
-                end: *end,
-            },
-            Entry::Timed { node, peer } => Entry::Timed {
-                node: node.copy()?,
-                peer: peer.copy()?,
-            },
-            Entry::Fed { sock, end, count } => Entry::Fed {
-                sock: sock.copy()?,
-                end: *end,
-                count: *count,
-            },
-            Entry::Wrote { sock, end, bytes } => Entry::Wrote {
-                sock: sock.copy()?,
-                end: *end,
-                bytes: bytes.copy()?,
-            },
-            Entry::Up { sock, end } => Entry::Up {
-                sock: sock.copy()?,
-                end: *end,
-            },
-            Entry::Down { sock, end } => Entry::Down {
-                sock: sock.copy()?,
-                end: *end,
-            },
-            Entry::Left { sock, end } => Entry::Left {
-                sock: sock.copy()?,
-                end: *end,
-            },
-            Entry::Broke { node, peer, why } => Entry::Broke {
-                node: node.copy()?,
-                peer: peer.copy()?,
-                why: *why,
-            },
-            Entry::Settled => Entry::Settled,
-        })
+            } => named_copied(node, name, process),
+            Entry::Shut { node } => shut_copied(node),
+            Entry::Dial { sock } => dial_copied(sock),
+            Entry::Knocked { sock } => knocked_copied(sock),
+            Entry::Poked { sock, bytes } => poked_copied(sock, bytes),
+            Entry::Quitted { sock } => quitted_copied(sock),
+            Entry::Joined { sock } => joined_copied(sock),
+            Entry::Came { sock } => came_copied(sock),
+            Entry::Refused { sock } => refused_copied(sock),
+            Entry::Cut { sock, end } => cut_copied(sock, *end),
+            Entry::Lost { sock, end } => lost_copied(sock, *end),
+            Entry::Timed { node, peer } => timed_copied(node, peer),
+            Entry::Fed { sock, end, count } => fed_copied(sock, *end, *count),
+            Entry::Wrote { sock, end, bytes } => wrote_copied(sock, *end, bytes),
+            Entry::Up { sock, end } => up_copied(sock, *end),
+            Entry::Down { sock, end } => down_copied(sock, *end),
+            Entry::Left { sock, end } => left_copied(sock, *end),
+            Entry::Broke { node, peer, why } => broke_copied(node, peer, *why),
+            Entry::Settled => Ok(Entry::Settled),
+        }
     }
 }
 
@@ -421,4 +328,323 @@ fn copy_process(process: &Option<ProcName>) -> Result<Option<ProcName>, OutOfMem
         None => Ok(None),
         Some(name) => Ok(Some(name.copy()?)),
     }
+}
+
+fn made_copied(
+    process: &ProcName,
+    spawn: &Option<RefName>,
+    label: &Option<Name>,
+) -> Result<Entry, OutOfMemory>
+    ensures { IfOk result (λ copied. copied ≡ entries.Made process.now spawn.now label.now) }
+{
+    Ok(Entry::Made {
+        process: process.copy()?,
+        spawn: copy_reference(spawn)?,
+        label: copy_name(label)?,
+    })
+}
+
+fn said_copied(
+    by: &ProcName,
+    to: &TargetName,
+    epoch: u64,
+    index: u64,
+    mark: &Name,
+    body: &Text,
+) -> Result<Entry, OutOfMemory>
+    ensures { IfOk result (λ copied. copied ≡ entries.Said by.now to.now epoch index mark.now body.now) }
+{
+    Ok(Entry::Said {
+        by: by.copy()?,
+        to: to.copy()?,
+        epoch,
+        index,
+        mark: mark.copy()?,
+        body: body.copy()?,
+    })
+}
+
+fn again_copied(by: &ProcName, to: &TargetName, epoch: u64) -> Result<Entry, OutOfMemory>
+    ensures { IfOk result (λ copied. copied ≡ entries.Again by.now to.now epoch) }
+{
+    Ok(Entry::Again {
+        by: by.copy()?,
+        to: to.copy()?,
+        epoch,
+    })
+}
+
+fn got_copied(
+    by: &ProcName,
+    to: &TargetName,
+    epoch: u64,
+    index: u64,
+    receiver: &Option<ProcName>,
+) -> Result<Entry, OutOfMemory>
+    ensures { IfOk result (λ copied. copied ≡ entries.Got by.now to.now epoch index receiver.now) }
+{
+    Ok(Entry::Got {
+        by: by.copy()?,
+        to: to.copy()?,
+        epoch,
+        index,
+        receiver: copy_process(receiver)?,
+    })
+}
+
+fn took_copied(
+    by: &ProcName,
+    port: Option<u32>,
+    mark: &Name,
+    body: &Text,
+) -> Result<Entry, OutOfMemory>
+    ensures { IfOk result (λ copied. copied ≡ entries.Took by.now port mark.now body.now) }
+{
+    Ok(Entry::Took {
+        by: by.copy()?,
+        port,
+        mark: mark.copy()?,
+        body: body.copy()?,
+    })
+}
+
+fn port_copied(process: &ProcName, port: u32) -> Result<Entry, OutOfMemory>
+    ensures { IfOk result (λ copied. copied ≡ entries.Port process.now port) }
+{
+    Ok(Entry::Port {
+        process: process.copy()?,
+        port,
+    })
+}
+
+fn over_copied(process: &ProcName, reason: &Reason) -> Result<Entry, OutOfMemory>
+    ensures { IfOk result (λ copied. copied ≡ entries.Over process.now reason.now) }
+{
+    Ok(Entry::Over {
+        process: process.copy()?,
+        reason: reason.copy()?,
+    })
+}
+
+fn doom_copied(process: &ProcName, text: &Text) -> Result<Entry, OutOfMemory>
+    ensures { IfOk result (λ copied. copied ≡ entries.Doom process.now text.now) }
+{
+    Ok(Entry::Doom {
+        process: process.copy()?,
+        text: text.copy()?,
+    })
+}
+
+fn watch_copied(
+    watch: &RefName,
+    by: &ProcName,
+    target: &ProcName,
+    kind: Kind,
+) -> Result<Entry, OutOfMemory>
+    ensures { IfOk result (λ copied. copied ≡ entries.Watch watch.now by.now target.now kind) }
+{
+    Ok(Entry::Watch {
+        watch: watch.copy()?,
+        by: by.copy()?,
+        target: target.copy()?,
+        kind,
+    })
+}
+
+fn unwatch_copied(watch: &RefName) -> Result<Entry, OutOfMemory>
+    ensures { IfOk result (λ copied. copied ≡ entries.Unwatch watch.now) }
+{
+    Ok(Entry::Unwatch {
+        watch: watch.copy()?,
+    })
+}
+
+fn absent_copied(watch: &RefName) -> Result<Entry, OutOfMemory>
+    ensures { IfOk result (λ copied. copied ≡ entries.Absent watch.now) }
+{
+    Ok(Entry::Absent {
+        watch: watch.copy()?,
+    })
+}
+
+fn told_copied(watch: &RefName, reason: &Reason) -> Result<Entry, OutOfMemory>
+    ensures { IfOk result (λ copied. copied ≡ entries.Told watch.now reason.now) }
+{
+    Ok(Entry::Told {
+        watch: watch.copy()?,
+        reason: reason.copy()?,
+    })
+}
+
+fn asked_copied(question: &RefName, by: &ProcName, at: &Text) -> Result<Entry, OutOfMemory>
+    ensures { IfOk result (λ copied. copied ≡ entries.Asked question.now by.now at.now) }
+{
+    Ok(Entry::Asked {
+        question: question.copy()?,
+        by: by.copy()?,
+        at: at.copy()?,
+    })
+}
+
+fn spawned_copied(question: &RefName, process: &ProcName) -> Result<Entry, OutOfMemory>
+    ensures { IfOk result (λ copied. copied ≡ entries.Spawned question.now process.now) }
+{
+    Ok(Entry::Spawned {
+        question: question.copy()?,
+        process: process.copy()?,
+    })
+}
+
+fn isat_copied(question: &RefName, found: &Option<ProcName>) -> Result<Entry, OutOfMemory>
+    ensures { IfOk result (λ copied. copied ≡ entries.Isat question.now found.now) }
+{
+    Ok(Entry::Isat {
+        question: question.copy()?,
+        found: copy_process(found)?,
+    })
+}
+
+fn named_copied(node: &Text, name: &Name, process: &Option<ProcName>) -> Result<Entry, OutOfMemory>
+    ensures { IfOk result (λ copied. copied ≡ entries.Named node.now name.now process.now) }
+{
+    Ok(Entry::Named {
+        node: node.copy()?,
+        name: name.copy()?,
+        process: copy_process(process)?,
+    })
+}
+
+fn shut_copied(node: &Text) -> Result<Entry, OutOfMemory>
+    ensures { IfOk result (λ copied. copied ≡ entries.Shut node.now) }
+{
+    Ok(Entry::Shut { node: node.copy()? })
+}
+
+fn dial_copied(sock: &SockName) -> Result<Entry, OutOfMemory>
+    ensures { IfOk result (λ copied. copied ≡ entries.Dial sock.now) }
+{
+    Ok(Entry::Dial { sock: sock.copy()? })
+}
+
+fn knocked_copied(sock: &SockName) -> Result<Entry, OutOfMemory>
+    ensures { IfOk result (λ copied. copied ≡ entries.Knocked sock.now) }
+{
+    Ok(Entry::Knocked { sock: sock.copy()? })
+}
+
+fn poked_copied(sock: &SockName, bytes: &Text) -> Result<Entry, OutOfMemory>
+    ensures { IfOk result (λ copied. copied ≡ entries.Poked sock.now bytes.now) }
+{
+    Ok(Entry::Poked {
+        sock: sock.copy()?,
+        bytes: bytes.copy()?,
+    })
+}
+
+fn quitted_copied(sock: &SockName) -> Result<Entry, OutOfMemory>
+    ensures { IfOk result (λ copied. copied ≡ entries.Quitted sock.now) }
+{
+    Ok(Entry::Quitted { sock: sock.copy()? })
+}
+
+fn joined_copied(sock: &SockName) -> Result<Entry, OutOfMemory>
+    ensures { IfOk result (λ copied. copied ≡ entries.Joined sock.now) }
+{
+    Ok(Entry::Joined { sock: sock.copy()? })
+}
+
+fn came_copied(sock: &SockName) -> Result<Entry, OutOfMemory>
+    ensures { IfOk result (λ copied. copied ≡ entries.Came sock.now) }
+{
+    Ok(Entry::Came { sock: sock.copy()? })
+}
+
+fn refused_copied(sock: &SockName) -> Result<Entry, OutOfMemory>
+    ensures { IfOk result (λ copied. copied ≡ entries.Refused sock.now) }
+{
+    Ok(Entry::Refused { sock: sock.copy()? })
+}
+
+fn cut_copied(sock: &SockName, end: End) -> Result<Entry, OutOfMemory>
+    ensures { IfOk result (λ copied. copied ≡ entries.Cut sock.now end) }
+{
+    Ok(Entry::Cut {
+        sock: sock.copy()?,
+        end,
+    })
+}
+
+fn lost_copied(sock: &SockName, end: End) -> Result<Entry, OutOfMemory>
+    ensures { IfOk result (λ copied. copied ≡ entries.Lost sock.now end) }
+{
+    Ok(Entry::Lost {
+        sock: sock.copy()?,
+        end,
+    })
+}
+
+fn timed_copied(node: &Text, peer: &Text) -> Result<Entry, OutOfMemory>
+    ensures { IfOk result (λ copied. copied ≡ entries.Timed node.now peer.now) }
+{
+    Ok(Entry::Timed {
+        node: node.copy()?,
+        peer: peer.copy()?,
+    })
+}
+
+fn fed_copied(sock: &SockName, end: End, count: u64) -> Result<Entry, OutOfMemory>
+    ensures { IfOk result (λ copied. copied ≡ entries.Fed sock.now end count) }
+{
+    Ok(Entry::Fed {
+        sock: sock.copy()?,
+        end,
+        count,
+    })
+}
+
+fn wrote_copied(sock: &SockName, end: End, bytes: &Text) -> Result<Entry, OutOfMemory>
+    ensures { IfOk result (λ copied. copied ≡ entries.Wrote sock.now end bytes.now) }
+{
+    Ok(Entry::Wrote {
+        sock: sock.copy()?,
+        end,
+        bytes: bytes.copy()?,
+    })
+}
+
+fn up_copied(sock: &SockName, end: End) -> Result<Entry, OutOfMemory>
+    ensures { IfOk result (λ copied. copied ≡ entries.Up sock.now end) }
+{
+    Ok(Entry::Up {
+        sock: sock.copy()?,
+        end,
+    })
+}
+
+fn down_copied(sock: &SockName, end: End) -> Result<Entry, OutOfMemory>
+    ensures { IfOk result (λ copied. copied ≡ entries.Down sock.now end) }
+{
+    Ok(Entry::Down {
+        sock: sock.copy()?,
+        end,
+    })
+}
+
+fn left_copied(sock: &SockName, end: End) -> Result<Entry, OutOfMemory>
+    ensures { IfOk result (λ copied. copied ≡ entries.Left sock.now end) }
+{
+    Ok(Entry::Left {
+        sock: sock.copy()?,
+        end,
+    })
+}
+
+fn broke_copied(node: &Text, peer: &Text, why: Why) -> Result<Entry, OutOfMemory>
+    ensures { IfOk result (λ copied. copied ≡ entries.Broke node.now peer.now why) }
+{
+    Ok(Entry::Broke {
+        node: node.copy()?,
+        peer: peer.copy()?,
+        why,
+    })
 }

@@ -1,6 +1,7 @@
 //! The lines of a journal, read.
 
 ghost use Rattle.std.specs.Prelude.{◌≡◌, IfOk};
+ghost use Rattle.ch_model.specs.declared.line.What.TheVariants as lines;
 
 use crate::name::{End, ProcName, RefName, SockName, TargetName};
 use ch_base::{Address, OutOfMemory, Text};
@@ -208,144 +209,358 @@ pub enum What {
 impl What {
     /// An equal line.
     pub fn copy(&self) -> Result<What, OutOfMemory>
-        ensures { IfOk result (λ what. what ≡ self.now) }
+        ensures { IfOk result (λ copied. copied ≡ self.now) }
     {
-        Ok(match self {
+        match self {
             What::Node {
                 name,
                 address,
                 unique,
-            } => What::Node {
-                name: name.copy()?,
-                address: address.copy()?,
-                unique: *unique,
-            },
+            } => node_copied(name, address, *unique),
             What::Away {
                 name,
                 address,
                 unique,
-            } => What::Away {
-                name: name.copy()?,
-                address: address.copy()?,
-                unique: *unique,
-            },
-            What::Label { node, label } => What::Label {
-                node: node.copy()?,
-                label: label.copy()?,
-            },
-            What::Stranger { name, host } => What::Stranger {
-                name: name.copy()?,
-                host: host.copy()?,
-            },
-            What::Proc { node } => What::Proc { node: node.copy()? },
-            What::Send { by, to, mark, body } => What::Send {
-                by: by.copy()?,
-                to: to.copy()?,
-                mark: mark.copy()?,
-                body: body.copy()?,
-            },
-            What::Nsend { by, to, mark, body } => What::Nsend {
-                by: by.copy()?,
-                to: to.copy()?,
-                mark: mark.copy()?,
-                body: body.copy()?,
-            },
-            What::Again { by, to } => What::Again {
-                by: by.copy()?,
-                to: to.copy()?,
-            },
-            What::Recv { by, mark } => What::Recv {
-                by: by.copy()?,
-                mark: mark.copy()?,
-            },
-            What::Port { by } => What::Port { by: by.copy()? },
-            What::Take { by, port } => What::Take {
-                by: by.copy()?,
-                port: *port,
-            },
-            What::End { by } => What::End { by: by.copy()? },
-            What::Fail { by, text } => What::Fail {
-                by: by.copy()?,
-                text: text.copy()?,
-            },
-            What::Fall { by } => What::Fall { by: by.copy()? },
-            What::Monitor { by, target } => What::Monitor {
-                by: by.copy()?,
-                target: target.copy()?,
-            },
-            What::Link { by, target } => What::Link {
-                by: by.copy()?,
-                target: target.copy()?,
-            },
-            What::Unwatch { by, watch } => What::Unwatch {
-                by: by.copy()?,
-                watch: watch.copy()?,
-            },
-            What::Exit { by, target, text } => What::Exit {
-                by: by.copy()?,
-                target: target.copy()?,
-                text: text.copy()?,
-            },
-            What::Kill { by, target, text } => What::Kill {
-                by: by.copy()?,
-                target: target.copy()?,
-                text: text.copy()?,
-            },
+            } => away_copied(name, address, *unique),
+            What::Label { node, label } => label_copied(node, label),
+            What::Stranger { name, host } => stranger_copied(name, host),
+            What::Proc { node } => proc_copied(node),
+            What::Send { by, to, mark, body } => send_copied(by, to, mark, body),
+            What::Nsend { by, to, mark, body } => nsend_copied(by, to, mark, body),
+            What::Again { by, to } => again_copied(by, to),
+            What::Recv { by, mark } => recv_copied(by, mark),
+            What::Port { by } => port_copied(by),
+            What::Take { by, port } => take_copied(by, *port),
+            What::End { by } => end_copied(by),
+            What::Fail { by, text } => fail_copied(by, text),
+            What::Fall { by } => fall_copied(by),
+            What::Monitor { by, target } => monitor_copied(by, target),
+            What::Link { by, target } => link_copied(by, target),
+            What::Unwatch { by, watch } => unwatch_copied(by, watch),
+            What::Exit { by, target, text } => exit_copied(by, target, text),
+            What::Kill { by, target, text } => kill_copied(by, target, text),
             What::Spawn {
                 by,
                 at,
                 label,
                 args,
-            } => What::Spawn {
-                by: by.copy()?,
-                at: at.copy()?,
-                label: label.copy()?,
-                args: args.copy()?,
-            },
-            What::Register { by, name } => What::Register {
-                by: by.copy()?,
-                name: name.copy()?,
-            },
-            What::Unregister { by, name } => What::Unregister {
-                by: by.copy()?,
-                name: name.copy()?,
-            },
-            What::Whereis { by, at, name } => What::Whereis {
-                by: by.copy()?,
-                at: at.copy()?,
-                name: name.copy()?,
-            },
-            What::Shut { node } => What::Shut { node: node.copy()? },
-            What::Join { sock } => What::Join { sock: sock.copy()? },
-            What::Come { sock } => What::Come { sock: sock.copy()? },
-            What::Refuse { sock } => What::Refuse { sock: sock.copy()? },
-            What::Feed { sock, end, count } => What::Feed {
-                sock: sock.copy()?,
-                end: *end,
-                count: *count,
-            },
-            What::Cut { sock, end } => What::Cut {
-                sock: sock.copy()?,
-                end: *end,
-            },
-            What::Lose { sock, end } => What::Lose {
-                sock: sock.copy()?,
-                end: *end,
-            },
-            What::Late { node, peer } => What::Late {
-                node: node.copy()?,
-                peer: peer.copy()?,
-            },
-            What::Knock { stranger, node } => What::Knock {
-                stranger: stranger.copy()?,
-                node: node.copy()?,
-            },
-            What::Poke { sock, bytes } => What::Poke {
-                sock: sock.copy()?,
-                bytes: bytes.copy()?,
-            },
-            What::Quit { sock } => What::Quit { sock: sock.copy()? },
-            What::Settle => What::Settle,
-        })
+            } => spawn_copied(by, at, label, args),
+            What::Register { by, name } => register_copied(by, name),
+            What::Unregister { by, name } => unregister_copied(by, name),
+            What::Whereis { by, at, name } => whereis_copied(by, at, name),
+            What::Shut { node } => shut_copied(node),
+            What::Join { sock } => join_copied(sock),
+            What::Come { sock } => come_copied(sock),
+            What::Refuse { sock } => refuse_copied(sock),
+            What::Feed { sock, end, count } => feed_copied(sock, *end, *count),
+            What::Cut { sock, end } => cut_copied(sock, *end),
+            What::Lose { sock, end } => lose_copied(sock, *end),
+            What::Late { node, peer } => late_copied(node, peer),
+            What::Knock { stranger, node } => knock_copied(stranger, node),
+            What::Poke { sock, bytes } => poke_copied(sock, bytes),
+            What::Quit { sock } => quit_copied(sock),
+            What::Settle => Ok(What::Settle),
+        }
     }
+}
+
+fn node_copied(name: &Text, address: &Address, unique: u32) -> Result<What, OutOfMemory>
+    ensures { IfOk result (λ copied. copied ≡ lines.Node name.now address.now unique) }
+{
+    Ok(What::Node {
+        name: name.copy()?,
+        address: address.copy()?,
+        unique,
+    })
+}
+
+fn away_copied(name: &Text, address: &Address, unique: u32) -> Result<What, OutOfMemory>
+    ensures { IfOk result (λ copied. copied ≡ lines.Away name.now address.now unique) }
+{
+    Ok(What::Away {
+        name: name.copy()?,
+        address: address.copy()?,
+        unique,
+    })
+}
+
+fn label_copied(node: &Text, label: &Name) -> Result<What, OutOfMemory>
+    ensures { IfOk result (λ copied. copied ≡ lines.Label node.now label.now) }
+{
+    Ok(What::Label {
+        node: node.copy()?,
+        label: label.copy()?,
+    })
+}
+
+fn stranger_copied(name: &Text, host: &Text) -> Result<What, OutOfMemory>
+    ensures { IfOk result (λ copied. copied ≡ lines.Stranger name.now host.now) }
+{
+    Ok(What::Stranger {
+        name: name.copy()?,
+        host: host.copy()?,
+    })
+}
+
+fn proc_copied(node: &Text) -> Result<What, OutOfMemory>
+    ensures { IfOk result (λ copied. copied ≡ lines.Proc node.now) }
+{
+    Ok(What::Proc { node: node.copy()? })
+}
+
+fn send_copied(
+    by: &ProcName,
+    to: &TargetName,
+    mark: &Name,
+    body: &Text,
+) -> Result<What, OutOfMemory>
+    ensures { IfOk result (λ copied. copied ≡ lines.Send by.now to.now mark.now body.now) }
+{
+    Ok(What::Send {
+        by: by.copy()?,
+        to: to.copy()?,
+        mark: mark.copy()?,
+        body: body.copy()?,
+    })
+}
+
+fn nsend_copied(
+    by: &ProcName,
+    to: &TargetName,
+    mark: &Name,
+    body: &Text,
+) -> Result<What, OutOfMemory>
+    ensures { IfOk result (λ copied. copied ≡ lines.Nsend by.now to.now mark.now body.now) }
+{
+    Ok(What::Nsend {
+        by: by.copy()?,
+        to: to.copy()?,
+        mark: mark.copy()?,
+        body: body.copy()?,
+    })
+}
+
+fn again_copied(by: &ProcName, to: &TargetName) -> Result<What, OutOfMemory>
+    ensures { IfOk result (λ copied. copied ≡ lines.Again by.now to.now) }
+{
+    Ok(What::Again {
+        by: by.copy()?,
+        to: to.copy()?,
+    })
+}
+
+fn recv_copied(by: &ProcName, mark: &Name) -> Result<What, OutOfMemory>
+    ensures { IfOk result (λ copied. copied ≡ lines.Recv by.now mark.now) }
+{
+    Ok(What::Recv {
+        by: by.copy()?,
+        mark: mark.copy()?,
+    })
+}
+
+fn port_copied(by: &ProcName) -> Result<What, OutOfMemory>
+    ensures { IfOk result (λ copied. copied ≡ lines.Port by.now) }
+{
+    Ok(What::Port { by: by.copy()? })
+}
+
+fn take_copied(by: &ProcName, port: u32) -> Result<What, OutOfMemory>
+    ensures { IfOk result (λ copied. copied ≡ lines.Take by.now port) }
+{
+    Ok(What::Take {
+        by: by.copy()?,
+        port,
+    })
+}
+
+fn end_copied(by: &ProcName) -> Result<What, OutOfMemory>
+    ensures { IfOk result (λ copied. copied ≡ lines.End by.now) }
+{
+    Ok(What::End { by: by.copy()? })
+}
+
+fn fail_copied(by: &ProcName, text: &Text) -> Result<What, OutOfMemory>
+    ensures { IfOk result (λ copied. copied ≡ lines.Fail by.now text.now) }
+{
+    Ok(What::Fail {
+        by: by.copy()?,
+        text: text.copy()?,
+    })
+}
+
+fn fall_copied(by: &ProcName) -> Result<What, OutOfMemory>
+    ensures { IfOk result (λ copied. copied ≡ lines.Fall by.now) }
+{
+    Ok(What::Fall { by: by.copy()? })
+}
+
+fn monitor_copied(by: &ProcName, target: &ProcName) -> Result<What, OutOfMemory>
+    ensures { IfOk result (λ copied. copied ≡ lines.Monitor by.now target.now) }
+{
+    Ok(What::Monitor {
+        by: by.copy()?,
+        target: target.copy()?,
+    })
+}
+
+fn link_copied(by: &ProcName, target: &ProcName) -> Result<What, OutOfMemory>
+    ensures { IfOk result (λ copied. copied ≡ lines.Link by.now target.now) }
+{
+    Ok(What::Link {
+        by: by.copy()?,
+        target: target.copy()?,
+    })
+}
+
+fn unwatch_copied(by: &ProcName, watch: &RefName) -> Result<What, OutOfMemory>
+    ensures { IfOk result (λ copied. copied ≡ lines.Unwatch by.now watch.now) }
+{
+    Ok(What::Unwatch {
+        by: by.copy()?,
+        watch: watch.copy()?,
+    })
+}
+
+fn exit_copied(by: &ProcName, target: &ProcName, text: &Text) -> Result<What, OutOfMemory>
+    ensures { IfOk result (λ copied. copied ≡ lines.Exit by.now target.now text.now) }
+{
+    Ok(What::Exit {
+        by: by.copy()?,
+        target: target.copy()?,
+        text: text.copy()?,
+    })
+}
+
+fn kill_copied(by: &ProcName, target: &ProcName, text: &Text) -> Result<What, OutOfMemory>
+    ensures { IfOk result (λ copied. copied ≡ lines.Kill by.now target.now text.now) }
+{
+    Ok(What::Kill {
+        by: by.copy()?,
+        target: target.copy()?,
+        text: text.copy()?,
+    })
+}
+
+fn spawn_copied(by: &ProcName, at: &Text, label: &Name, args: &Text) -> Result<What, OutOfMemory>
+    ensures { IfOk result (λ copied. copied ≡ lines.Spawn by.now at.now label.now args.now) }
+{
+    Ok(What::Spawn {
+        by: by.copy()?,
+        at: at.copy()?,
+        label: label.copy()?,
+        args: args.copy()?,
+    })
+}
+
+fn register_copied(by: &ProcName, name: &Name) -> Result<What, OutOfMemory>
+    ensures { IfOk result (λ copied. copied ≡ lines.Register by.now name.now) }
+{
+    Ok(What::Register {
+        by: by.copy()?,
+        name: name.copy()?,
+    })
+}
+
+fn unregister_copied(by: &ProcName, name: &Name) -> Result<What, OutOfMemory>
+    ensures { IfOk result (λ copied. copied ≡ lines.Unregister by.now name.now) }
+{
+    Ok(What::Unregister {
+        by: by.copy()?,
+        name: name.copy()?,
+    })
+}
+
+fn whereis_copied(by: &ProcName, at: &Text, name: &Name) -> Result<What, OutOfMemory>
+    ensures { IfOk result (λ copied. copied ≡ lines.Whereis by.now at.now name.now) }
+{
+    Ok(What::Whereis {
+        by: by.copy()?,
+        at: at.copy()?,
+        name: name.copy()?,
+    })
+}
+
+fn shut_copied(node: &Text) -> Result<What, OutOfMemory>
+    ensures { IfOk result (λ copied. copied ≡ lines.Shut node.now) }
+{
+    Ok(What::Shut { node: node.copy()? })
+}
+
+fn join_copied(sock: &SockName) -> Result<What, OutOfMemory>
+    ensures { IfOk result (λ copied. copied ≡ lines.Join sock.now) }
+{
+    Ok(What::Join { sock: sock.copy()? })
+}
+
+fn come_copied(sock: &SockName) -> Result<What, OutOfMemory>
+    ensures { IfOk result (λ copied. copied ≡ lines.Come sock.now) }
+{
+    Ok(What::Come { sock: sock.copy()? })
+}
+
+fn refuse_copied(sock: &SockName) -> Result<What, OutOfMemory>
+    ensures { IfOk result (λ copied. copied ≡ lines.Refuse sock.now) }
+{
+    Ok(What::Refuse { sock: sock.copy()? })
+}
+
+fn feed_copied(sock: &SockName, end: End, count: u32) -> Result<What, OutOfMemory>
+    ensures { IfOk result (λ copied. copied ≡ lines.Feed sock.now end count) }
+{
+    Ok(What::Feed {
+        sock: sock.copy()?,
+        end,
+        count,
+    })
+}
+
+fn cut_copied(sock: &SockName, end: End) -> Result<What, OutOfMemory>
+    ensures { IfOk result (λ copied. copied ≡ lines.Cut sock.now end) }
+{
+    Ok(What::Cut {
+        sock: sock.copy()?,
+        end,
+    })
+}
+
+fn lose_copied(sock: &SockName, end: End) -> Result<What, OutOfMemory>
+    ensures { IfOk result (λ copied. copied ≡ lines.Lose sock.now end) }
+{
+    Ok(What::Lose {
+        sock: sock.copy()?,
+        end,
+    })
+}
+
+fn late_copied(node: &Text, peer: &Text) -> Result<What, OutOfMemory>
+    ensures { IfOk result (λ copied. copied ≡ lines.Late node.now peer.now) }
+{
+    Ok(What::Late {
+        node: node.copy()?,
+        peer: peer.copy()?,
+    })
+}
+
+fn knock_copied(stranger: &Text, node: &Text) -> Result<What, OutOfMemory>
+    ensures { IfOk result (λ copied. copied ≡ lines.Knock stranger.now node.now) }
+{
+    Ok(What::Knock {
+        stranger: stranger.copy()?,
+        node: node.copy()?,
+    })
+}
+
+fn poke_copied(sock: &SockName, bytes: &Text) -> Result<What, OutOfMemory>
+    ensures { IfOk result (λ copied. copied ≡ lines.Poke sock.now bytes.now) }
+{
+    Ok(What::Poke {
+        sock: sock.copy()?,
+        bytes: bytes.copy()?,
+    })
+}
+
+fn quit_copied(sock: &SockName) -> Result<What, OutOfMemory>
+    ensures { IfOk result (λ copied. copied ≡ lines.Quit sock.now) }
+{
+    Ok(What::Quit { sock: sock.copy()? })
 }
