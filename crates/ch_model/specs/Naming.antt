@@ -77,9 +77,6 @@ maybe_called known found = option_map (process_called known) found
 
 -- ---- sockets
 
-abbrev pub same_socket : SockName → SockName → Bool
-same_socket a b = bytes_eq a.from b.from && (bytes_eq a.to b.to && a.number == b.number)
-
 -- two sockets of the same opener and target
 abbrev pub same_ends : List ℕ → List ℕ → SockName → Bool
 same_ends from to name = bytes_eq name.from from && bytes_eq name.to to

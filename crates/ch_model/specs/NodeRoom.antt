@@ -13,11 +13,8 @@ use Rattle.ch_model.specs.declared.command.CommandError.TheVariants.{Unknown, De
 use Rattle.ch_model.specs.NodeState.{NodeState, Pair, Mark, Unopened, Broken}
 use Rattle.ch_model.specs.NodeActs.{◌>>=◌}
 use Rattle.ch_model.specs.NodeIds.{is_here, life_here, is_port_here, target_at}
+use Rattle.ch_model.specs.HostCalls.{most_waiting}
 use Rattle.ch_model.specs.NodeConnections.{conn_to}
-
--- how many counted payloads may wait for a link
-abbrev pub most_waiting : ℕ
-most_waiting = 4096
 
 -- how many connections may be opened on a socket, besides the one from node to node
 abbrev pub most_opened : ℕ

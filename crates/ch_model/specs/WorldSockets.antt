@@ -8,7 +8,8 @@ use Rattle.ch_model.specs.declared.name.SockName.{SockName}
 use Rattle.ch_model.specs.declared.step.Place.{Place}
 use Rattle.ch_model.specs.Stages.{Stage, Pending, Open, Ended, is_ended}
 use Rattle.ch_model.specs.WorldState.{Cell, WorldEnd, WorldSocket, World}
-use Rattle.ch_model.specs.Naming.{same_socket, same_ends}
+use Rattle.ch_model.specs.Naming.{same_ends}
+use Rattle.ch_model.specs.Same.{same_socket}
 
 -- ---- ends
 

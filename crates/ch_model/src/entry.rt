@@ -261,7 +261,10 @@ impl Entry {
                 mark,
                 body,
             } => took_copied(by, *port, mark, body),
-            Entry::Port { process, port } => port_copied(process, *port),
+            Entry::Port { process, port } => Ok(Entry::Port {
+                process: process.copy()?,
+                port: *port,
+            }),
             Entry::Over { process, reason } => over_copied(process, reason),
             Entry::Doom { process, text } => doom_copied(process, text),
             Entry::Watch {
@@ -270,8 +273,12 @@ impl Entry {
                 target,
                 kind,
             } => watch_copied(watch, by, target, *kind),
-            Entry::Unwatch { watch } => unwatch_copied(watch),
-            Entry::Absent { watch } => absent_copied(watch),
+            Entry::Unwatch { watch } => Ok(Entry::Unwatch {
+                watch: watch.copy()?,
+            }),
+            Entry::Absent { watch } => Ok(Entry::Absent {
+                watch: watch.copy()?,
+            }),
             Entry::Told { watch, reason } => told_copied(watch, reason),
             Entry::Asked { question, by, at } => asked_copied(question, by, at),
             Entry::Spawned { question, process } => spawned_copied(question, process),
@@ -281,22 +288,41 @@ impl Entry {
                 name,
                 process,
             } => named_copied(node, name, process),
-            Entry::Shut { node } => shut_copied(node),
-            Entry::Dial { sock } => dial_copied(sock),
-            Entry::Knocked { sock } => knocked_copied(sock),
+            Entry::Shut { node } => Ok(Entry::Shut { node: node.copy()? }),
+            Entry::Dial { sock } => Ok(Entry::Dial { sock: sock.copy()? }),
+            Entry::Knocked { sock } => Ok(Entry::Knocked { sock: sock.copy()? }),
             Entry::Poked { sock, bytes } => poked_copied(sock, bytes),
-            Entry::Quitted { sock } => quitted_copied(sock),
-            Entry::Joined { sock } => joined_copied(sock),
-            Entry::Came { sock } => came_copied(sock),
-            Entry::Refused { sock } => refused_copied(sock),
-            Entry::Cut { sock, end } => cut_copied(sock, *end),
-            Entry::Lost { sock, end } => lost_copied(sock, *end),
+            Entry::Quitted { sock } => Ok(Entry::Quitted { sock: sock.copy()? }),
+            Entry::Joined { sock } => Ok(Entry::Joined { sock: sock.copy()? }),
+            Entry::Came { sock } => Ok(Entry::Came { sock: sock.copy()? }),
+            Entry::Refused { sock } => Ok(Entry::Refused { sock: sock.copy()? }),
+            Entry::Cut { sock, end } => Ok(Entry::Cut {
+                sock: sock.copy()?,
+                end: *end,
+            }),
+            Entry::Lost { sock, end } => Ok(Entry::Lost {
+                sock: sock.copy()?,
+                end: *end,
+            }),
             Entry::Timed { node, peer } => timed_copied(node, peer),
-            Entry::Fed { sock, end, count } => fed_copied(sock, *end, *count),
+            Entry::Fed { sock, end, count } => Ok(Entry::Fed {
+                sock: sock.copy()?,
+                end: *end,
+                count: *count,
+            }),
             Entry::Wrote { sock, end, bytes } => wrote_copied(sock, *end, bytes),
-            Entry::Up { sock, end } => up_copied(sock, *end),
-            Entry::Down { sock, end } => down_copied(sock, *end),
-            Entry::Left { sock, end } => left_copied(sock, *end),
+            Entry::Up { sock, end } => Ok(Entry::Up {
+                sock: sock.copy()?,
+                end: *end,
+            }),
+            Entry::Down { sock, end } => Ok(Entry::Down {
+                sock: sock.copy()?,
+                end: *end,
+            }),
+            Entry::Left { sock, end } => Ok(Entry::Left {
+                sock: sock.copy()?,
+                end: *end,
+            }),
             Entry::Broke { node, peer, why } => broke_copied(node, peer, *why),
             Entry::Settled => Ok(Entry::Settled),
         }
@@ -408,15 +434,6 @@ fn took_copied(
     })
 }
 
-fn port_copied(process: &ProcName, port: u32) -> Result<Entry, OutOfMemory>
-    ensures { IfOk result (λ copied. copied ≡ entries.Port process.now port) }
-{
-    Ok(Entry::Port {
-        process: process.copy()?,
-        port,
-    })
-}
-
 fn over_copied(process: &ProcName, reason: &Reason) -> Result<Entry, OutOfMemory>
     ensures { IfOk result (λ copied. copied ≡ entries.Over process.now reason.now) }
 {
@@ -448,22 +465,6 @@ fn watch_copied(
         by: by.copy()?,
         target: target.copy()?,
         kind,
-    })
-}
-
-fn unwatch_copied(watch: &RefName) -> Result<Entry, OutOfMemory>
-    ensures { IfOk result (λ copied. copied ≡ entries.Unwatch watch.now) }
-{
-    Ok(Entry::Unwatch {
-        watch: watch.copy()?,
-    })
-}
-
-fn absent_copied(watch: &RefName) -> Result<Entry, OutOfMemory>
-    ensures { IfOk result (λ copied. copied ≡ entries.Absent watch.now) }
-{
-    Ok(Entry::Absent {
-        watch: watch.copy()?,
     })
 }
 
@@ -514,72 +515,12 @@ fn named_copied(node: &Text, name: &Name, process: &Option<ProcName>) -> Result<
     })
 }
 
-fn shut_copied(node: &Text) -> Result<Entry, OutOfMemory>
-    ensures { IfOk result (λ copied. copied ≡ entries.Shut node.now) }
-{
-    Ok(Entry::Shut { node: node.copy()? })
-}
-
-fn dial_copied(sock: &SockName) -> Result<Entry, OutOfMemory>
-    ensures { IfOk result (λ copied. copied ≡ entries.Dial sock.now) }
-{
-    Ok(Entry::Dial { sock: sock.copy()? })
-}
-
-fn knocked_copied(sock: &SockName) -> Result<Entry, OutOfMemory>
-    ensures { IfOk result (λ copied. copied ≡ entries.Knocked sock.now) }
-{
-    Ok(Entry::Knocked { sock: sock.copy()? })
-}
-
 fn poked_copied(sock: &SockName, bytes: &Text) -> Result<Entry, OutOfMemory>
     ensures { IfOk result (λ copied. copied ≡ entries.Poked sock.now bytes.now) }
 {
     Ok(Entry::Poked {
         sock: sock.copy()?,
         bytes: bytes.copy()?,
-    })
-}
-
-fn quitted_copied(sock: &SockName) -> Result<Entry, OutOfMemory>
-    ensures { IfOk result (λ copied. copied ≡ entries.Quitted sock.now) }
-{
-    Ok(Entry::Quitted { sock: sock.copy()? })
-}
-
-fn joined_copied(sock: &SockName) -> Result<Entry, OutOfMemory>
-    ensures { IfOk result (λ copied. copied ≡ entries.Joined sock.now) }
-{
-    Ok(Entry::Joined { sock: sock.copy()? })
-}
-
-fn came_copied(sock: &SockName) -> Result<Entry, OutOfMemory>
-    ensures { IfOk result (λ copied. copied ≡ entries.Came sock.now) }
-{
-    Ok(Entry::Came { sock: sock.copy()? })
-}
-
-fn refused_copied(sock: &SockName) -> Result<Entry, OutOfMemory>
-    ensures { IfOk result (λ copied. copied ≡ entries.Refused sock.now) }
-{
-    Ok(Entry::Refused { sock: sock.copy()? })
-}
-
-fn cut_copied(sock: &SockName, end: End) -> Result<Entry, OutOfMemory>
-    ensures { IfOk result (λ copied. copied ≡ entries.Cut sock.now end) }
-{
-    Ok(Entry::Cut {
-        sock: sock.copy()?,
-        end,
-    })
-}
-
-fn lost_copied(sock: &SockName, end: End) -> Result<Entry, OutOfMemory>
-    ensures { IfOk result (λ copied. copied ≡ entries.Lost sock.now end) }
-{
-    Ok(Entry::Lost {
-        sock: sock.copy()?,
-        end,
     })
 }
 
@@ -592,16 +533,6 @@ fn timed_copied(node: &Text, peer: &Text) -> Result<Entry, OutOfMemory>
     })
 }
 
-fn fed_copied(sock: &SockName, end: End, count: u64) -> Result<Entry, OutOfMemory>
-    ensures { IfOk result (λ copied. copied ≡ entries.Fed sock.now end count) }
-{
-    Ok(Entry::Fed {
-        sock: sock.copy()?,
-        end,
-        count,
-    })
-}
-
 fn wrote_copied(sock: &SockName, end: End, bytes: &Text) -> Result<Entry, OutOfMemory>
     ensures { IfOk result (λ copied. copied ≡ entries.Wrote sock.now end bytes.now) }
 {
@@ -609,33 +540,6 @@ fn wrote_copied(sock: &SockName, end: End, bytes: &Text) -> Result<Entry, OutOfM
         sock: sock.copy()?,
         end,
         bytes: bytes.copy()?,
-    })
-}
-
-fn up_copied(sock: &SockName, end: End) -> Result<Entry, OutOfMemory>
-    ensures { IfOk result (λ copied. copied ≡ entries.Up sock.now end) }
-{
-    Ok(Entry::Up {
-        sock: sock.copy()?,
-        end,
-    })
-}
-
-fn down_copied(sock: &SockName, end: End) -> Result<Entry, OutOfMemory>
-    ensures { IfOk result (λ copied. copied ≡ entries.Down sock.now end) }
-{
-    Ok(Entry::Down {
-        sock: sock.copy()?,
-        end,
-    })
-}
-
-fn left_copied(sock: &SockName, end: End) -> Result<Entry, OutOfMemory>
-    ensures { IfOk result (λ copied. copied ≡ entries.Left sock.now end) }
-{
-    Ok(Entry::Left {
-        sock: sock.copy()?,
-        end,
     })
 }
 

@@ -224,16 +224,19 @@ impl What {
             } => away_copied(name, address, *unique),
             What::Label { node, label } => label_copied(node, label),
             What::Stranger { name, host } => stranger_copied(name, host),
-            What::Proc { node } => proc_copied(node),
+            What::Proc { node } => Ok(What::Proc { node: node.copy()? }),
             What::Send { by, to, mark, body } => send_copied(by, to, mark, body),
             What::Nsend { by, to, mark, body } => nsend_copied(by, to, mark, body),
             What::Again { by, to } => again_copied(by, to),
             What::Recv { by, mark } => recv_copied(by, mark),
-            What::Port { by } => port_copied(by),
-            What::Take { by, port } => take_copied(by, *port),
-            What::End { by } => end_copied(by),
+            What::Port { by } => Ok(What::Port { by: by.copy()? }),
+            What::Take { by, port } => Ok(What::Take {
+                by: by.copy()?,
+                port: *port,
+            }),
+            What::End { by } => Ok(What::End { by: by.copy()? }),
             What::Fail { by, text } => fail_copied(by, text),
-            What::Fall { by } => fall_copied(by),
+            What::Fall { by } => Ok(What::Fall { by: by.copy()? }),
             What::Monitor { by, target } => monitor_copied(by, target),
             What::Link { by, target } => link_copied(by, target),
             What::Unwatch { by, watch } => unwatch_copied(by, watch),
@@ -248,17 +251,27 @@ impl What {
             What::Register { by, name } => register_copied(by, name),
             What::Unregister { by, name } => unregister_copied(by, name),
             What::Whereis { by, at, name } => whereis_copied(by, at, name),
-            What::Shut { node } => shut_copied(node),
-            What::Join { sock } => join_copied(sock),
-            What::Come { sock } => come_copied(sock),
-            What::Refuse { sock } => refuse_copied(sock),
-            What::Feed { sock, end, count } => feed_copied(sock, *end, *count),
-            What::Cut { sock, end } => cut_copied(sock, *end),
-            What::Lose { sock, end } => lose_copied(sock, *end),
+            What::Shut { node } => Ok(What::Shut { node: node.copy()? }),
+            What::Join { sock } => Ok(What::Join { sock: sock.copy()? }),
+            What::Come { sock } => Ok(What::Come { sock: sock.copy()? }),
+            What::Refuse { sock } => Ok(What::Refuse { sock: sock.copy()? }),
+            What::Feed { sock, end, count } => Ok(What::Feed {
+                sock: sock.copy()?,
+                end: *end,
+                count: *count,
+            }),
+            What::Cut { sock, end } => Ok(What::Cut {
+                sock: sock.copy()?,
+                end: *end,
+            }),
+            What::Lose { sock, end } => Ok(What::Lose {
+                sock: sock.copy()?,
+                end: *end,
+            }),
             What::Late { node, peer } => late_copied(node, peer),
             What::Knock { stranger, node } => knock_copied(stranger, node),
             What::Poke { sock, bytes } => poke_copied(sock, bytes),
-            What::Quit { sock } => quit_copied(sock),
+            What::Quit { sock } => Ok(What::Quit { sock: sock.copy()? }),
             What::Settle => Ok(What::Settle),
         }
     }
@@ -300,12 +313,6 @@ fn stranger_copied(name: &Text, host: &Text) -> Result<What, OutOfMemory>
         name: name.copy()?,
         host: host.copy()?,
     })
-}
-
-fn proc_copied(node: &Text) -> Result<What, OutOfMemory>
-    ensures { IfOk result (λ copied. copied ≡ lines.Proc node.now) }
-{
-    Ok(What::Proc { node: node.copy()? })
 }
 
 fn send_copied(
@@ -358,27 +365,6 @@ fn recv_copied(by: &ProcName, mark: &Name) -> Result<What, OutOfMemory>
     })
 }
 
-fn port_copied(by: &ProcName) -> Result<What, OutOfMemory>
-    ensures { IfOk result (λ copied. copied ≡ lines.Port by.now) }
-{
-    Ok(What::Port { by: by.copy()? })
-}
-
-fn take_copied(by: &ProcName, port: u32) -> Result<What, OutOfMemory>
-    ensures { IfOk result (λ copied. copied ≡ lines.Take by.now port) }
-{
-    Ok(What::Take {
-        by: by.copy()?,
-        port,
-    })
-}
-
-fn end_copied(by: &ProcName) -> Result<What, OutOfMemory>
-    ensures { IfOk result (λ copied. copied ≡ lines.End by.now) }
-{
-    Ok(What::End { by: by.copy()? })
-}
-
 fn fail_copied(by: &ProcName, text: &Text) -> Result<What, OutOfMemory>
     ensures { IfOk result (λ copied. copied ≡ lines.Fail by.now text.now) }
 {
@@ -386,12 +372,6 @@ fn fail_copied(by: &ProcName, text: &Text) -> Result<What, OutOfMemory>
         by: by.copy()?,
         text: text.copy()?,
     })
-}
-
-fn fall_copied(by: &ProcName) -> Result<What, OutOfMemory>
-    ensures { IfOk result (λ copied. copied ≡ lines.Fall by.now) }
-{
-    Ok(What::Fall { by: by.copy()? })
 }
 
 fn monitor_copied(by: &ProcName, target: &ProcName) -> Result<What, OutOfMemory>
@@ -480,58 +460,6 @@ fn whereis_copied(by: &ProcName, at: &Text, name: &Name) -> Result<What, OutOfMe
     })
 }
 
-fn shut_copied(node: &Text) -> Result<What, OutOfMemory>
-    ensures { IfOk result (λ copied. copied ≡ lines.Shut node.now) }
-{
-    Ok(What::Shut { node: node.copy()? })
-}
-
-fn join_copied(sock: &SockName) -> Result<What, OutOfMemory>
-    ensures { IfOk result (λ copied. copied ≡ lines.Join sock.now) }
-{
-    Ok(What::Join { sock: sock.copy()? })
-}
-
-fn come_copied(sock: &SockName) -> Result<What, OutOfMemory>
-    ensures { IfOk result (λ copied. copied ≡ lines.Come sock.now) }
-{
-    Ok(What::Come { sock: sock.copy()? })
-}
-
-fn refuse_copied(sock: &SockName) -> Result<What, OutOfMemory>
-    ensures { IfOk result (λ copied. copied ≡ lines.Refuse sock.now) }
-{
-    Ok(What::Refuse { sock: sock.copy()? })
-}
-
-fn feed_copied(sock: &SockName, end: End, count: u32) -> Result<What, OutOfMemory>
-    ensures { IfOk result (λ copied. copied ≡ lines.Feed sock.now end count) }
-{
-    Ok(What::Feed {
-        sock: sock.copy()?,
-        end,
-        count,
-    })
-}
-
-fn cut_copied(sock: &SockName, end: End) -> Result<What, OutOfMemory>
-    ensures { IfOk result (λ copied. copied ≡ lines.Cut sock.now end) }
-{
-    Ok(What::Cut {
-        sock: sock.copy()?,
-        end,
-    })
-}
-
-fn lose_copied(sock: &SockName, end: End) -> Result<What, OutOfMemory>
-    ensures { IfOk result (λ copied. copied ≡ lines.Lose sock.now end) }
-{
-    Ok(What::Lose {
-        sock: sock.copy()?,
-        end,
-    })
-}
-
 fn late_copied(node: &Text, peer: &Text) -> Result<What, OutOfMemory>
     ensures { IfOk result (λ copied. copied ≡ lines.Late node.now peer.now) }
 {
@@ -557,10 +485,4 @@ fn poke_copied(sock: &SockName, bytes: &Text) -> Result<What, OutOfMemory>
         sock: sock.copy()?,
         bytes: bytes.copy()?,
     })
-}
-
-fn quit_copied(sock: &SockName) -> Result<What, OutOfMemory>
-    ensures { IfOk result (λ copied. copied ≡ lines.Quit sock.now) }
-{
-    Ok(What::Quit { sock: sock.copy()? })
 }
