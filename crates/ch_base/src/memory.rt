@@ -1,5 +1,8 @@
 //! The answers that any layer may give: want of memory, a count that can't grow, a fault outside.
 
+ghost use Rattle.std.specs.Prelude.{◌≡◌};
+ghost use Rattle.ch_base.specs.declared.memory.Stop.TheVariants as stops;
+
 use std::alloc::{AllocError, AllocFailed};
 
 /// No memory was to be had.
@@ -28,5 +31,29 @@ impl From<AllocError> for OutOfMemory {
 impl<T: Drop> From<AllocFailed<T>> for OutOfMemory {
     fn from(_e: AllocFailed<T>) -> OutOfMemory {
         OutOfMemory
+    }
+}
+
+impl From<OutOfMemory> for Stop {
+    ghost from_gives = { λ _ stop. stop ≡ stops.OutOfMemory };
+
+    fn from(_e: OutOfMemory) -> Stop {
+        Stop::OutOfMemory
+    }
+}
+
+impl From<AllocError> for Stop {
+    ghost from_gives = { λ _ stop. stop ≡ stops.OutOfMemory };
+
+    fn from(_e: AllocError) -> Stop {
+        Stop::OutOfMemory
+    }
+}
+
+impl<T: Drop> From<AllocFailed<T>> for Stop {
+    ghost from_gives = { λ _ stop. stop ≡ stops.OutOfMemory };
+
+    fn from(_e: AllocFailed<T>) -> Stop {
+        Stop::OutOfMemory
     }
 }
