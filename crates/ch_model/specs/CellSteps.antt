@@ -1,6 +1,6 @@
 -- How a host and its nodes work together: a step that posts an event goes to a node, the node's acts go back to the
 -- host, and all that followed is told as one list.
-use Rattle.std.specs.Prelude.{ℕ, zero, suc, Bool, ◌==◌, List, [], ◌∷◌, ◌++◌, length, map, sum_by, find, Option, Some, None, Result, Ok, Err, if◌then◌else◌}
+use Rattle.std.specs.Prelude.{ℕ, zero, suc, Bool, ◌==◌, List, [], ◌∷◌, ◌++◌, length, map, sum_by, find, Some, None, Result, Ok, Err, if◌then◌else◌}
 use Rattle.ch_base.specs.declared.event.Event.{Event}
 use Rattle.ch_base.specs.declared.memory.Stop.{Stop}
 use Rattle.ch_base.specs.declared.memory.Stop.TheVariants as stops
@@ -12,7 +12,7 @@ use Rattle.ch_model.specs.declared.step.EndError.{EndError}
 use Rattle.ch_model.specs.declared.step.EndError.TheVariants as errors
 use Rattle.ch_model.specs.declared.step.Step.{Step}
 use Rattle.ch_model.specs.declared.step.Step.TheVariants as steps
-use Rattle.ch_model.specs.HostState.{Socket, HostState}
+use Rattle.ch_model.specs.HostState.{HostState}
 use Rattle.ch_model.specs.HostCalls.{host_connect, host_send, host_close}
 use Rattle.ch_model.specs.Host.{host_next}
 use Rattle.ch_model.specs.NodeState.{NodeState}

@@ -1,6 +1,5 @@
 -- What a host's sockets bring, and how it handles what was read, item by item.
 use Rattle.std.specs.Prelude.{ℕ, Bool, true, false, ◌&&◌, List, [], ◌∷◌, ◌++◌, drop, find, Option, Some, None, Result, Ok, Err, nat_lt, if◌then◌else◌}
-use Rattle.ch_base.specs.declared.address.Address.{Address}
 use Rattle.ch_base.specs.declared.memory.Stop.{Stop}
 use Rattle.ch_wire.specs.Spelling.{request_spelling}
 use Rattle.ch_reader.specs.Reading.{reading}

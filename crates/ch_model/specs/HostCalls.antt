@@ -1,5 +1,5 @@
 -- What an endpoint asks of its host: connections, payloads, and its own end.
-use Rattle.std.specs.Prelude.{ℕ, Bool, true, false, not, ◌&&◌, List, [], ◌∷◌, ◌++◌, length, find, filter, is_some, Option, Some, None, Result, Ok, Err, nat_lt, nat_le, ◌==◌, if◌then◌else◌}
+use Rattle.std.specs.Prelude.{ℕ, Bool, true, false, not, ◌&&◌, List, [], ◌∷◌, ◌++◌, length, find, is_some, Option, Some, None, Result, Ok, Err, nat_lt, nat_le, ◌==◌, if◌then◌else◌}
 use Rattle.std.specs.List.{list_any}
 use Rattle.ch_base.specs.declared.address.Address.{Address}
 use Rattle.ch_base.specs.declared.event.Event.TheVariants as events
@@ -12,7 +12,6 @@ use Rattle.ch_wire.specs.declared.frame.Frame.TheVariants as frames
 use Rattle.ch_link.specs.Sockets.{timer_runs}
 use Rattle.ch_link.specs.declared.LinkIn.TheVariants.{Want, Shut}
 use Rattle.ch_light.specs.Ids.{id_of, give_of, close_of}
-use Rattle.ch_light.specs.declared.Connection.{Connection}
 use Rattle.ch_light.specs.declared.error.LightError.{LightError}
 use Rattle.ch_light.specs.declared.error.LightError.TheVariants as lights
 use Rattle.ch_model.specs.declared.step.EndError.{EndError}
@@ -21,7 +20,7 @@ use Rattle.ch_model.specs.declared.step.Step.{Step}
 use Rattle.ch_model.specs.declared.step.Weight.{Weight}
 use Rattle.ch_model.specs.declared.step.Weight.TheVariants.{Free}
 use Rattle.ch_model.specs.HostState.{Endpoint, Link, HostState}
-use Rattle.ch_model.specs.HostSteps.{Stepped, still, ◌then◌, is_endpoint, is_open_endpoint, link_with, with_link, with_endpoint}
+use Rattle.ch_model.specs.HostSteps.{Stepped, still, ◌then◌, is_endpoint, is_open_endpoint, link_with, with_endpoint}
 use Rattle.ch_model.specs.HostWrites.{is_up, is_counted, counted_in, puts}
 use Rattle.ch_model.specs.HostLinks.{next_dial, hears}
 use Rattle.ch_model.specs.HostItems.{posts}

@@ -1,5 +1,5 @@
 -- What a host does with each item that is read on one of its sockets.
-use Rattle.std.specs.Prelude.{ℕ, ◌+◌, ◌*◌, Bool, true, false, not, ◌||◌, List, [], ◌∷◌, find, Option, Some, None, Result, Ok, Err, nat_lt, if◌then◌else◌}
+use Rattle.std.specs.Prelude.{ℕ, ◌+◌, ◌*◌, Bool, true, not, ◌||◌, List, [], ◌∷◌, find, Option, Some, None, Result, Ok, Err, nat_lt, if◌then◌else◌}
 use Rattle.std.specs.List.{list_any}
 use Rattle.std.specs.Str.{bytes_eq}
 use Rattle.ch_base.specs.declared.address.Address.{Address}
@@ -14,7 +14,6 @@ use Rattle.ch_wire.specs.declared.request.Request.{Request}
 use Rattle.ch_reader.specs.declared.item.Item.{Item}
 use Rattle.ch_reader.specs.declared.item.Item.TheVariants as items
 use Rattle.ch_link.specs.Sockets.{names}
-use Rattle.ch_link.specs.declared.LinkIn.{LinkIn}
 use Rattle.ch_link.specs.declared.LinkIn.TheVariants as inputs
 use Rattle.ch_link.specs.declared.LinkAnswer.{LinkAnswer}
 use Rattle.ch_link.specs.declared.LinkAnswer.TheVariants as links
@@ -23,7 +22,7 @@ use Rattle.ch_light.specs.declared.Connection.{Connection}
 use Rattle.ch_light.specs.declared.error.LightError.{LightError}
 use Rattle.ch_watch.specs.Same.{same_node}
 use Rattle.ch_model.specs.declared.step.Step.TheVariants as steps
-use Rattle.ch_model.specs.HostState.{Endpoint, Link, Socket, HostState}
+use Rattle.ch_model.specs.HostState.{Link, Socket, HostState}
 use Rattle.ch_model.specs.HostSteps.{Stepped, still, ◌then◌, is_endpoint, is_open_endpoint, own_address, link_with, with_link, with_socket, with_endpoint}
 use Rattle.ch_model.specs.HostWrites.{leaves, answers_and_leaves}
 use Rattle.ch_model.specs.HostLinks.{hears}

@@ -1,5 +1,5 @@
 -- What a host does for the acts of the link table.
-use Rattle.std.specs.Prelude.{ℕ, ◌+◌, Bool, List, [], ◌∷◌, find, Option, Some, None, Result, Ok, Err, nat_lt, ◌*◌, if◌then◌else◌}
+use Rattle.std.specs.Prelude.{ℕ, ◌+◌, [], ◌∷◌, Some, None, Ok, Err, nat_lt, ◌*◌, if◌then◌else◌}
 use Rattle.ch_base.specs.declared.address.Address.{Address}
 use Rattle.ch_base.specs.declared.event.Why.{Why}
 use Rattle.ch_base.specs.declared.event.Event.TheVariants as events
@@ -18,8 +18,8 @@ use Rattle.ch_link.specs.declared.LinkAct.TheVariants as acts
 use Rattle.ch_model.specs.declared.step.Step.TheVariants as steps
 use Rattle.ch_model.specs.Stages.{Pending}
 use Rattle.ch_model.specs.HostState.{Link, Socket, HostState}
-use Rattle.ch_model.specs.HostSteps.{Stepped, still, does, ◌then◌, link_with, own_address, with_link, with_socket}
-use Rattle.ch_model.specs.HostWrites.{writes, end_socket, leaves, goes_down, answers_and_leaves, flushes_to, forgotten, leaves_off}
+use Rattle.ch_model.specs.HostSteps.{Stepped, still, does, ◌then◌, own_address, with_link, with_socket}
+use Rattle.ch_model.specs.HostWrites.{writes, leaves, answers_and_leaves, flushes_to, forgotten, leaves_off}
 use Rattle.ch_model.specs.Greater.{is_greater}
 
 -- how often a host may dial: its sockets' numbers are even, and numbers of 64 bits

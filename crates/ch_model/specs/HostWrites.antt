@@ -1,11 +1,10 @@
 -- What a host writes: answers and frames on a socket at once, and what waits for a link to be up.
-use Rattle.std.specs.Prelude.{ℕ, Bool, true, false, not, List, [], ◌∷◌, ◌++◌, length, filter, find, map, Option, Some, None, Ok}
-use Rattle.ch_base.specs.declared.address.Address.{Address}
-use Rattle.ch_wire.specs.Spelling.{request_spelling, answer_spelling, frame_spelling}
+use Rattle.std.specs.Prelude.{ℕ, Bool, true, false, List, [], ◌∷◌, ◌++◌, length, filter, find, map, Option, Some, None, Ok}
+use Rattle.ch_wire.specs.Spelling.{answer_spelling, frame_spelling}
 use Rattle.ch_wire.specs.declared.answer.Answer.{Answer}
 use Rattle.ch_wire.specs.declared.frame.Frame.{Frame}
 use Rattle.ch_link.specs.declared.LinkState.{LinkState}
-use Rattle.ch_link.specs.declared.LinkState.TheVariants.{Idle, Dialing, AwaitOther, Up}
+use Rattle.ch_link.specs.declared.LinkState.TheVariants.{Dialing, Up}
 use Rattle.ch_model.specs.declared.step.Place.{Place}
 use Rattle.ch_model.specs.declared.step.Step.{Step}
 use Rattle.ch_model.specs.declared.step.Step.TheVariants as steps

@@ -6,9 +6,9 @@ use Rattle.ch_base.specs.declared.memory.Stop.{Stop}
 use Rattle.ch_model.specs.declared.entry.Entry.{Entry}
 use Rattle.ch_model.specs.declared.name.End.{End}
 use Rattle.ch_model.specs.declared.name.End.TheVariants.{O, T}
-use Rattle.ch_model.specs.Stages.{Stage, Pending, Open, Ended}
-use Rattle.ch_model.specs.HostState.{Link, Socket, HostState}
-use Rattle.ch_model.specs.WorldState.{Cell, WorldEnd, WorldSocket, World}
+use Rattle.ch_model.specs.Stages.{Pending, Open, Ended}
+use Rattle.ch_model.specs.HostState.{Link, HostState}
+use Rattle.ch_model.specs.WorldState.{WorldEnd, WorldSocket, World}
 use Rattle.ch_model.specs.WorldSockets.{end_of, has_input, is_of_host}
 use Rattle.ch_model.specs.WorldHappenings.{Answered, joins, refuses, comes, feeds, times_out}
 use Rattle.ch_model.specs.Timers.{timer_runs_for, all_links}

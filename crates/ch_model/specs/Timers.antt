@@ -1,10 +1,9 @@
 -- Timers of links, as the world sees them.
-use Rattle.std.specs.Prelude.{ℕ, Bool, true, false, ◌==◌, List, [], ◌∷◌, ◌++◌, map, filter, Option, Some, None, slice_get}
+use Rattle.std.specs.Prelude.{ℕ, Bool, false, ◌==◌, List, [], map, filter, Some, None, slice_get}
 use Rattle.std.specs.List.{flat_map}
 use Rattle.ch_base.specs.declared.address.Address.{Address}
-use Rattle.ch_model.specs.HostState.{Link}
 use Rattle.ch_model.specs.HostCalls.{host_timer_runs}
-use Rattle.ch_model.specs.WorldState.{Cell, Named, World}
+use Rattle.ch_model.specs.WorldState.{World}
 use Rattle.ch_model.specs.Naming.{called, named_as}
 use Rattle.ch_model.specs.WorldSockets.{cell_of}
 

@@ -1,12 +1,10 @@
 -- What the network does to a socket or a timer, with all that follows: the same by a line as in settling.
-use Rattle.std.specs.Prelude.{ℕ, ◌+◌, ◌*◌, ◌/◌, Bool, ◌==◌, List, [], ◌∷◌, ◌++◌, length, take, drop, find, Option, Some, None, Result, Ok, Err, slice_get, slice_set, if◌then◌else◌}
-use Rattle.ch_base.specs.declared.address.Address.{Address}
+use Rattle.std.specs.Prelude.{ℕ, ◌+◌, ◌*◌, ◌/◌, List, [], ◌∷◌, length, take, drop, Some, None, Result, Ok, Err, slice_get, slice_set}
 use Rattle.ch_base.specs.declared.memory.Stop.{Stop}
 use Rattle.ch_model.specs.declared.entry.Entry.{Entry}
 use Rattle.ch_model.specs.declared.entry.Entry.TheVariants as entries
 use Rattle.ch_model.specs.declared.entry.Verdict.{Verdict}
 use Rattle.ch_model.specs.declared.entry.Verdict.TheVariants as verdicts
-use Rattle.ch_model.specs.declared.local.LocalEntry.{LocalEntry}
 use Rattle.ch_model.specs.declared.local.LocalEvent.{LocalEvent}
 use Rattle.ch_model.specs.declared.local.LocalEvent.TheVariants as events
 use Rattle.ch_model.specs.declared.name.End.{End}

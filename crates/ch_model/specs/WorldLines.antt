@@ -1,10 +1,8 @@
 -- What each line of a journal does to the world.
-use Rattle.std.specs.Prelude.{ℕ, Bool, true, false, not, ◌&&◌, ◌||◌, List, [], ◌∷◌, ◌++◌, find, is_some, Option, Some, None, Result, Ok, Err, if◌then◌else◌}
+use Rattle.std.specs.Prelude.{ℕ, Bool, not, ◌&&◌, List, [], find, is_some, Option, Some, None, if◌then◌else◌}
 use Rattle.std.specs.Str.{bytes_eq}
-use Rattle.ch_base.specs.declared.address.Address.{Address}
 use Rattle.ch_static.specs.declared.command.Command.{Command}
 use Rattle.ch_static.specs.declared.command.Command.TheVariants as commands
-use Rattle.ch_model.specs.declared.entry.Entry.{Entry}
 use Rattle.ch_model.specs.declared.entry.Entry.TheVariants as entries
 use Rattle.ch_model.specs.declared.line.What.{What}
 use Rattle.ch_model.specs.declared.line.What.TheVariants as lines
@@ -14,10 +12,9 @@ use Rattle.ch_model.specs.declared.name.End.{End}
 use Rattle.ch_model.specs.declared.name.End.TheVariants.{O, T}
 use Rattle.ch_model.specs.declared.name.ProcName.{ProcName}
 use Rattle.ch_model.specs.declared.name.SockName.{SockName}
-use Rattle.ch_model.specs.Stages.{Stage, Open, is_pending, is_open, is_ended}
-use Rattle.ch_model.specs.HostCalls.{host_timer_runs}
-use Rattle.ch_model.specs.WorldState.{Cell, WorldEnd, WorldSocket, World}
-use Rattle.ch_model.specs.Naming.{Names, named_as, address_as, process_as, target_as, reference_as}
+use Rattle.ch_model.specs.Stages.{Open, is_pending, is_open, is_ended}
+use Rattle.ch_model.specs.WorldState.{WorldSocket, World}
+use Rattle.ch_model.specs.Naming.{Names, address_as, process_as, target_as, reference_as}
 use Rattle.ch_model.specs.WorldSockets.{end_of, ended, cut, arrives, is_of_host, has_input, is_socket_named, with_socket, with_end_of, end_of_nobody, cell_of, new_socket}
 use Rattle.ch_model.specs.WorldHappenings.{Answered, nothing, tells, cell_hears, joins, refuses, comes, feeds, loses, times_out}
 use Rattle.ch_model.specs.Timers.{timer_runs_for}
