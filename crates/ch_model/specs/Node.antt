@@ -10,7 +10,7 @@ use Rattle.ch_ident.specs.declared.identifier.Ref.{Ref}
 use Rattle.ch_ident.specs.declared.reason.Reason.TheVariants.{Normal, Exception}
 use Rattle.ch_ident.specs.declared.node_message.NodeMessage.TheVariants as messages
 use Rattle.ch_mail.specs.declared.life.Life.{Life}
-use Rattle.ch_mail.specs.Mail.{life_of, waiting_of}
+use Rattle.ch_mail.specs.Mail.{life_of, waiting_of, downed}
 use Rattle.ch_static.specs.declared.command.Command.{Command}
 use Rattle.ch_static.specs.declared.command.Command.TheVariants.{Send, Again, Receive, OpenPort, Take, End, Fail, Fall, Monitor, Link, Unwatch, Exit, Kill, Spawn, Register, Unregister, WhereIs}
 use Rattle.ch_watch.specs.declared.waiting.Kind.TheVariants as kinds
@@ -23,7 +23,7 @@ use Rattle.ch_model.specs.NodeState.{NodeState}
 use Rattle.ch_model.specs.NodeActs.{Done, Answered, silent, stopping}
 use Rattle.ch_model.specs.NodeIds.{target_at}
 use Rattle.ch_model.specs.NodeLives.{make}
-use Rattle.ch_model.specs.NodeEnds.{shut_process, shut_lists}
+use Rattle.ch_model.specs.NodeEnds.{shut_lists}
 use Rattle.ch_model.specs.NodeWatches.{watch_under}
 use Rattle.ch_model.specs.NodeArrivals.{arrives, departs, received, peer_lost}
 use Rattle.ch_model.specs.NodeCommands.{send_of, again_of, receive_of, take_port, open_port, finish_of, fall_of}
@@ -67,7 +67,7 @@ node_event node (ConnectionLost peer why) = peer_lost node peer why
 
 -- a node is shut, for good: its processes are over, and nothing is open, kept or named any more
 unfoldable pub node_shut : NodeState → Answered
-node_shut node = if node.is_shut then Err Dead else Ok (acts.Note (Shut node.own) ∷ [], record node { is_shut = true; mail = map shut_process node.mail; watches = shut_lists node.watches })
+node_shut node = if node.is_shut then Err Dead else Ok (acts.Note (Shut node.own) ∷ [], record node { is_shut = true; mail = map downed node.mail; watches = shut_lists node.watches })
 
 -- ---- what may be read of a node
 

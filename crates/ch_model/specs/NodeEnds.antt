@@ -40,10 +40,6 @@ over node number reason = do
 
 -- ---- the node is shut
 
--- a process of a node that is shut is over, if it wasn't
-abbrev pub shut_process : Process → Process
-shut_process process = if is_over process.life then process else record process { life = Over NodeDown }
-
 -- nothing is open, kept or named any more
 abbrev pub shut_lists : Lists → Lists
 shut_lists lists = record lists { waiting = []; watched = []; names = [] }
