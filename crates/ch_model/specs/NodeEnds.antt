@@ -1,10 +1,7 @@
 -- How a process of a node is over, and what goes with it.
-use Rattle.std.specs.Prelude.{ℕ, List, [], ◌∷◌, ◌++◌, map, None, if◌then◌else◌}
+use Rattle.std.specs.Prelude.{ℕ, List, [], ◌∷◌, ◌++◌, map, None}
 use Rattle.ch_ident.specs.declared.reason.Reason.{Reason}
-use Rattle.ch_ident.specs.declared.reason.Reason.TheVariants.{NodeDown}
-use Rattle.ch_mail.specs.declared.life.Life.TheVariants.{Over}
 use Rattle.ch_mail.specs.Process.{Process}
-use Rattle.ch_mail.specs.Lives.{is_over}
 use Rattle.ch_mail.specs.Mail.{end_of}
 use Rattle.ch_watch.specs.Lists.{Lists}
 use Rattle.ch_watch.specs.Watches.{ended_of}
