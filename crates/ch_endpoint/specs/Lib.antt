@@ -1,0 +1,11 @@
+pub mod Kept
+pub mod Stages
+pub mod Calls
+pub mod Places
+pub mod Waits
+pub mod Users
+pub mod Shuts
+pub mod Asks
+pub mod Dialing
+pub mod Opens
+pub mod Ends

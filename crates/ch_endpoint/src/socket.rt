@@ -1,0 +1,125 @@
+//! A host's end of a socket.
+
+ghost use Rattle.std.specs.Prelude.{◌≡◌, [], ◌++◌, None, Some, IfOk, OnOk};
+ghost use Rattle.ch_model.specs.HostLinks.{dialed};
+ghost use Rattle.ch_model.specs.Stages.{Open, is_open as is_open_of, is_pending as is_pending_of};
+ghost use Rattle.ch_model.specs.Host.{accepted};
+ghost use Rattle.ch_endpoint.specs.Ends.{ended};
+
+use ch_base::{Address, OutOfMemory, Text};
+use ch_reader::Expected;
+use std::alloc::Global;
+use std::marker::Model;
+
+/// How an end stands.
+#[derive(Clone, Copy, Debug, PartialEq, Eq)]
+pub(crate) enum Standing {
+    /// It is dialed and not open yet.
+    Pending,
+    Open,
+    Ended,
+}
+
+/// A host's end of a socket. Contracts see how it stands, for whom, and what was fed and not read.
+#[derive(Drop)]
+pub(crate) struct Socket {
+    pub(crate) number: u64,
+    pub(crate) peer_host: Option<Text>,
+    pub(crate) standing: Standing,
+    pub(crate) user: Option<(u32, Address)>,
+    pub(crate) expected: Expected,
+    pub(crate) since: Vec<u8>,
+}
+
+impl Model for Socket {
+    ghost use Rattle.ch_model.specs.HostState.{Socket as SocketValue};
+
+    ghost Value = { SocketValue };
+
+    ghost use Rattle.ch_endpoint.specs.Stages.{stage_of};
+
+    ghost view = { λ s. record { number = s.number; peer_host = s.peer_host; stage = stage_of s.standing; user = s.user; expected = s.expected; since = s.since.items } };
+}
+
+impl Socket {
+    /// A socket that an endpoint dials for its link.
+    pub(crate) fn dialed(alloc: Global, sock: u64, end: u32, peer: Address) -> Socket
+        ensures { result ≡ dialed sock end peer }
+    {
+        Socket {
+            number: sock,
+            peer_host: None,
+            standing: Standing::Pending,
+            user: Some((end, peer)),
+            expected: Expected::Answer,
+            since: Vec::new(alloc),
+        }
+    }
+
+    /// It is ended, and what was read of it is dropped.
+    pub(crate) fn end(&mut self)
+        ensures { self.new ≡ ended self.old }
+    {
+        self.standing = Standing::Ended;
+        self.since.clear();
+    }
+
+    /// A socket that was accepted.
+    pub(crate) fn accepted(alloc: Global, sock: u64, peer_host: Text) -> Socket
+        ensures { result ≡ accepted sock peer_host }
+    {
+        Socket {
+            number: sock,
+            peer_host: Some(peer_host),
+            standing: Standing::Open,
+            user: None,
+            expected: Expected::Request,
+            since: Vec::new(alloc),
+        }
+    }
+
+    /// The endpoint and the peer for whom it stands.
+    pub(crate) fn user(&self) -> Result<Option<(u32, Address)>, OutOfMemory>
+        ensures { IfOk result (λ user. user ≡ self.now.user) }
+    {
+        match &self.user {
+            None => Ok(None),
+            Some((end, peer)) => Ok(Some((*end, peer.copy()?))),
+        }
+    }
+
+    /// Whether it is open.
+    pub(crate) fn is_open(&self) -> bool
+        ensures { result ≡ is_open_of self.now.stage }
+    {
+        match self.standing {
+            Standing::Open => true,
+            _ => false,
+        }
+    }
+
+    /// Whether it is dialed and not open yet.
+    pub(crate) fn is_pending(&self) -> bool
+        ensures { result ≡ is_pending_of self.now.stage }
+    {
+        match self.standing {
+            Standing::Pending => true,
+            _ => false,
+        }
+    }
+
+    /// It is open.
+    pub(crate) fn open(&mut self)
+        ensures { self.new ≡ record self.old { stage = Open } }
+    {
+        self.standing = Standing::Open;
+    }
+
+    /// Bytes are kept behind those that are.
+    pub(crate) fn feed(&mut self, bytes: &[u8]) -> Result<(), OutOfMemory>
+        ensures { OnOk result (self.new ≡ record self.old { since = self.old.since ++ bytes.now }) }
+    {
+        self.since.extend_from_slice(bytes)?;
+        Ok(())
+    }
+}
