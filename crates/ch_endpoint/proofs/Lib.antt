@@ -5,3 +5,7 @@ pub mod Ended
 pub mod Sending
 pub mod Shutting
 pub mod Fronts
+pub mod Arriving
+pub mod ItemsRead
+pub mod Endpoints
+pub mod FramesRead

@@ -62,7 +62,7 @@ unfolding host_close_endpoint
 close_all host end done o d = rw (o, d) refl
 
 -- an endpoint that is found is stored under its number
-endpoint_stored : (endpoint found : Endpoint) (ends : List Endpoint) → find (is_endpoint endpoint.number) ends ≡ Some found → store_endpoint endpoint ends ≡ replaced (is_endpoint endpoint.number) endpoint ends
+pub endpoint_stored : (endpoint found : Endpoint) (ends : List Endpoint) → find (is_endpoint endpoint.number) ends ≡ Some found → store_endpoint endpoint ends ≡ replaced (is_endpoint endpoint.number) endpoint ends
 endpoint_stored endpoint found [] e = absurd cc
 endpoint_stored endpoint found (known ∷ rest) e = by_test (is_endpoint endpoint.number known) (endpoint_stored endpoint found rest) e
   where

@@ -9,3 +9,5 @@ pub mod Asks
 pub mod Dialing
 pub mod Opens
 pub mod Ends
+pub mod Arrivals
+pub mod Taking

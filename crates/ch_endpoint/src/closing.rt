@@ -36,7 +36,7 @@ impl State {
         Ok(steps)
     }
 
-    fn end_place(&self, end: u32) -> Option<usize>
+    pub(crate) fn end_place(&self, end: u32) -> Option<usize>
         ensures place { result ≡ position (is_endpoint end) self.now.ends }
         ensures within { IfSome result (λ place. place < length self.now.ends) }
     {

@@ -47,7 +47,7 @@ fn counted(alloc: Global, first: u32, bytes: &[u8]) -> Result<Text, OutOfMemory>
 
 impl State {
     /// The endpoint and the peer for whom a socket stands.
-    fn user_of(&self, sock: u64) -> Result<Option<(u32, Address)>, OutOfMemory>
+    pub(crate) fn user_of(&self, sock: u64) -> Result<Option<(u32, Address)>, OutOfMemory>
         ensures { IfOk result (λ user. user ≡ user_of_socket (find (is_socket sock) self.now.sockets)) }
     {
         match self.sockets.get(sock) {

@@ -5,11 +5,13 @@
 #![tactic(auto)]
 
 mod acts;
+mod arrivals;
 mod closing;
 mod endpoint;
 mod events;
 mod front;
 mod host;
+mod items;
 mod link;
 mod links;
 mod payloads;

@@ -4,9 +4,10 @@ ghost use Rattle.std.specs.Prelude.{◌≡◌, ◌<◌, ◌≤◌, ◌+◌, ◌+
 ghost use Rattle.ch_watch.specs.Same.{same_node as same_node_of};
 ghost use Rattle.ch_model.specs.HostSteps.{is_link, new_link};
 ghost use Rattle.ch_model.specs.HostWrites.{is_counted as is_counted_of, counted_in, said_of, forgotten, frame_step as frame_step_of};
-ghost use Rattle.ch_light.specs.Ids.{opened, id_of};
+ghost use Rattle.ch_light.specs.Ids.{opened, id_of, conn_of as conn_of_id};
 ghost use Rattle.ch_model.specs.HostCalls.{carries};
 ghost use Rattle.ch_endpoint.specs.Waits.{closing};
+ghost use Rattle.ch_endpoint.specs.Arrivals.{may_create as may_create_of, creating, closing_id, number_of};
 
 use ch_base::{Address, OutOfMemory, Text};
 use ch_light::{Incoming, Outgoing};
@@ -48,6 +49,8 @@ pub(crate) struct Link {
     pub(crate) created: Incoming,
     /// How many counted payloads wait.
     pub(crate) counted: u32,
+    /// How many ids the other end has created.
+    pub(crate) arrived: u32,
 }
 
 impl Model for Link {
@@ -55,12 +58,12 @@ impl Model for Link {
 
     ghost Value = { LinkValue };
 
-    ghost use Rattle.std.specs.Prelude.{◌≡◌, ◌≤◌};
+    ghost use Rattle.std.specs.Prelude.{◌≡◌, ◌≤◌, length};
     ghost use Rattle.ch_endpoint.specs.Waits.{counted_of};
 
     ghost view = { λ l. record { end = l.end; peer = l.peer; state = l.state; waits = l.waits.items; given = l.given; created = l.created } };
 
-    ghost invariant = { λ l. (l.counted ≡ counted_of l.waits.items) × (l.counted ≤ 4096) };
+    ghost invariant = { λ l. (l.counted ≡ counted_of l.waits.items) × (l.counted ≤ 4096) × (l.arrived ≡ length l.created) };
 }
 
 #[tactic(auto, unfolding(ch_watch::specs::Same::same_node))]
@@ -83,6 +86,7 @@ impl Link {
             given: Outgoing::new(alloc),
             created: Incoming::new(alloc),
             counted: 0,
+            arrived: 0,
         }
     }
 
@@ -160,6 +164,49 @@ impl Link {
         }
     }
 
+    /// Whether the other end may create this id now.
+    pub(crate) fn may_create(&self, id: u32) -> bool
+        ensures { result ≡ may_create_of id self.now.created }
+    {
+        self.arrived < 65_536 && id == 1024 + self.arrived
+    }
+
+    /// The other end has created its next id, for this connection.
+    #[tactic(auto, using(crate::proofs::Arriving::created_next))]
+    pub(crate) fn create(&mut self, id: u32, conn: u64) -> Result<(), OutOfMemory>
+        requires { may_create_of id self.old.created ≡ true }
+        ensures ok { OnOk result (self.new ≡ creating conn self.old) }
+        ensures err { OnErr result (self.new ≡ self.old) }
+    {
+        match self.created.created(id, conn) {
+            Ok(()) => {
+                self.arrived += 1;
+                Ok(())
+            }
+            Err(_) => Err(OutOfMemory),
+        }
+    }
+
+    /// The connection that an id of the other end stands for.
+    pub(crate) fn conn_of(&self, id: u32) -> Option<u64>
+        ensures { result ≡ number_of (conn_of_id self.now.created id) }
+    {
+        match self.created.conn_of(id) {
+            Ok(conn) => Some(conn),
+            Err(_) => None,
+        }
+    }
+
+    /// The other end has closed an id, where it is open.
+    pub(crate) fn close_id(&mut self, id: u32)
+        ensures { self.new ≡ closing_id id self.old }
+    {
+        match self.created.closed(id) {
+            Ok(_) => {}
+            Err(_) => {}
+        }
+    }
+
     /// A frame waits behind those that wait.
     pub(crate) fn wait(&mut self, item: Waiting) -> Result<(), OutOfMemory>
         requires { is_counted_of item.1 ≡ true → counted_in self.old < 4096 }
@@ -193,6 +240,7 @@ impl Link {
         self.counted = 0;
         self.given = Outgoing::new(alloc);
         self.created = Incoming::new(alloc);
+        self.arrived = 0;
     }
 }
 

@@ -8,6 +8,7 @@ ghost use Rattle.ch_model.specs.HostCalls.{carries};
 ghost use Rattle.ch_endpoint.specs.Places.{IsPlaceOf};
 ghost use Rattle.ch_endpoint.specs.Shuts.{peers_of};
 ghost use Rattle.ch_endpoint.specs.Waits.{giving, waiting, forgetting, closing};
+ghost use Rattle.ch_endpoint.specs.Arrivals.{may_create, creating, closing_id};
 
 use crate::link::{Link, Waiting};
 use ch_base::{Address, OutOfMemory};
@@ -163,6 +164,31 @@ impl Links {
     {
         let place = self.made(end, peer)?;
         self.rows[place].close(conn);
+        Ok(())
+    }
+
+    /// The other end of the link has created its next id, for this connection.
+    pub(crate) fn create(
+        &mut self,
+        end: u32,
+        peer: &Address,
+        id: u32,
+        conn: u64,
+    ) -> Result<(), OutOfMemory>
+        requires { may_create id (link_or_new end peer.now (find (is_link end peer.now) self.old)).created ≡ true }
+        ensures { OnOk result (self.new ≡ store_link (creating conn (link_or_new end peer.now (find (is_link end peer.now) self.old))) self.old) }
+    {
+        let place = self.made(end, peer)?;
+        self.rows[place].create(id, conn)?;
+        Ok(())
+    }
+
+    /// The other end of the link has closed an id, where it is open.
+    pub(crate) fn close_id(&mut self, end: u32, peer: &Address, id: u32) -> Result<(), OutOfMemory>
+        ensures { OnOk result (self.new ≡ store_link (closing_id id (link_or_new end peer.now (find (is_link end peer.now) self.old))) self.old) }
+    {
+        let place = self.made(end, peer)?;
+        self.rows[place].close_id(id);
         Ok(())
     }
 

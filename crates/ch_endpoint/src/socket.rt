@@ -1,6 +1,7 @@
 //! A host's end of a socket.
 
 ghost use Rattle.std.specs.Prelude.{◌≡◌, [], ◌++◌, None, Some, IfOk, OnOk};
+ghost use Rattle.ch_endpoint.specs.Taking.{comes_from as comes_from_of};
 ghost use Rattle.ch_model.specs.HostLinks.{dialed};
 ghost use Rattle.ch_model.specs.Stages.{Open, is_open as is_open_of, is_pending as is_pending_of};
 ghost use Rattle.ch_model.specs.Host.{accepted};
@@ -85,6 +86,23 @@ impl Socket {
         match &self.user {
             None => Ok(None),
             Some((end, peer)) => Ok(Some((*end, peer.copy()?))),
+        }
+    }
+
+    /// It stands for this link from now on.
+    pub(crate) fn use_for(&mut self, end: u32, peer: Address)
+        ensures { self.new ≡ record self.old { user = Some (end, peer) } }
+    {
+        self.user = Some((end, peer));
+    }
+
+    /// Whether it was accepted from a peer of this host text.
+    pub(crate) fn comes_from(&self, host: &[u8]) -> bool
+        ensures { result ≡ comes_from_of self.now.peer_host host.now }
+    {
+        match &self.peer_host {
+            None => false,
+            Some(peer_host) => host == peer_host.as_slice(),
         }
     }
 

@@ -4,9 +4,10 @@ ghost use Rattle.std.specs.Prelude.{◌≡◌, ◌<◌, [], length, position, fi
 ghost use Rattle.std.specs.Option.{option_copied};
 ghost use Rattle.ch_model.specs.HostSteps.{is_socket, store_socket};
 ghost use Rattle.ch_endpoint.specs.Ends.{ended_among, opened_among, fed_among};
+ghost use Rattle.ch_endpoint.specs.Taking.{used_among};
 
 use crate::socket::Socket;
-use ch_base::OutOfMemory;
+use ch_base::{Address, OutOfMemory};
 use std::alloc::Global;
 use std::marker::Model;
 
@@ -80,6 +81,16 @@ impl Sockets {
         match self.place(number) {
             None => {}
             Some(place) => self.rows[place].open(),
+        }
+    }
+
+    /// A socket stands for this link from now on.
+    pub(crate) fn use_for(&mut self, number: u64, end: u32, peer: Address)
+        ensures { self.new ≡ used_among end peer number self.old }
+    {
+        match self.place(number) {
+            None => {}
+            Some(place) => self.rows[place].use_for(end, peer),
         }
     }
 
