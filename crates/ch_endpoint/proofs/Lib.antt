@@ -4,8 +4,9 @@ pub mod Heard
 pub mod Ended
 pub mod Sending
 pub mod Shutting
-pub mod Fronts
 pub mod Arriving
 pub mod ItemsRead
 pub mod Endpoints
 pub mod FramesRead
+pub mod Longer
+pub mod SocketTables

@@ -113,7 +113,7 @@ both false b e = absurd cc
 pub number_is : (a b : ℕ) → (a == b) ≡ true → a ≡ b
 number_is a b e = grind (arith, nat_tests)
 
-number_same : (a : ℕ) → (a == a) ≡ true
+pub number_same : (a : ℕ) → (a == a) ≡ true
 number_same a = grind (arith, nat_tests)
 
 -- one address is one
@@ -171,7 +171,7 @@ stored_under end peer link e p links = stored link links ∙ (λ i. replaced (is
 -- ---- links of keys apart
 
 -- what isn't found isn't found after a write of what doesn't pass
-find_other : {X : Type 0} (p q : X → Bool) (y : X) → q y ≡ false → (xs : List X) → find q xs ≡ None → find q (replaced p y xs) ≡ None
+pub find_other : {X : Type 0} (p q : X → Bool) (y : X) → q y ≡ false → (xs : List X) → find q xs ≡ None → find q (replaced p y xs) ≡ None
 find_other p q y other [] e = ap (λ b. cond b (Some y) None) other
 find_other p q y other (x ∷ xs) e = by_tests (p x) (q x) refl (find_other p q y other xs) e
   where

@@ -11,3 +11,6 @@ pub mod Opens
 pub mod Ends
 pub mod Arrivals
 pub mod Taking
+pub mod Unread
+pub mod Readers
+pub mod ReadySets

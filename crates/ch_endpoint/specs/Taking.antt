@@ -1,12 +1,14 @@
 -- What is taken from the bytes of a socket, and for whom a socket stands.
-use Rattle.std.specs.Prelude.{ℕ, Bool, false, List, drop, find, Option, Some, None}
+use Rattle.std.specs.Prelude.{ℕ, Bool, false, List, [], ◌∷◌, drop, find, Option, Some, None}
 use Rattle.std.specs.Str.{bytes_eq}
 use Rattle.ch_base.specs.declared.address.Address.{Address}
 use Rattle.ch_reader.specs.declared.item.Expected.TheVariants as expected
 use Rattle.ch_reader.specs.declared.item.Front.{Front}
 use Rattle.ch_reader.specs.declared.item.Front.TheVariants.{Unfinished, Whole, Refused}
-use Rattle.ch_model.specs.HostState.{Socket}
-use Rattle.ch_model.specs.HostSteps.{is_socket, store_socket}
+use Rattle.ch_model.specs.declared.step.Step.TheVariants as steps
+use Rattle.ch_model.specs.HostState.{Socket, HostState}
+use Rattle.ch_model.specs.HostSteps.{is_socket, store_socket, Stepped, still, after_steps}
+use Rattle.ch_model.specs.HostItems.{is_gone, reads}
 use Rattle.ch_model.specs.Host.{front_of}
 
 -- what stands at the front of a socket, and how many of its bytes are of it
@@ -44,3 +46,9 @@ peer_host_of (Some socket) = socket.peer_host
 abbrev pub comes_from : Option (List ℕ) → List ℕ → Bool
 comes_from None host = false
 comes_from (Some peer_host) host = bytes_eq host peer_host
+
+-- what was taken from the front of a socket is handled; the socket is what it is then
+abbrev pub handled : Front → Socket → HostState → Stepped
+handled Unfinished socket host = still host
+handled (Refused error) socket host = is_gone socket host
+handled (Whole item) socket host = after_steps (steps.Read socket.number ∷ []) (reads socket item host)

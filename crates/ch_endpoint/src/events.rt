@@ -162,7 +162,7 @@ impl State {
     {
         let own = self.own_text(end)?;
         let bytes = counted(self.alloc(), peer.id, own.as_slice())?;
-        self.sockets.open(sock);
+        self.sockets.open(sock)?;
         one(
             self.alloc(),
             Step::Write {

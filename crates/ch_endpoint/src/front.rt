@@ -1,11 +1,10 @@
-//! What stands at the front of the bytes that are read on a socket.
+//! A reader of items that begins with an item of some kind.
 
 ghost use Rattle.std.specs.Prelude.{◌≡◌, [], IfOk};
-ghost use Rattle.ch_reader.specs.Reading.{reading};
 ghost use Rattle.ch_reader.specs.States.{Waits};
 
 use ch_base::OutOfMemory;
-use ch_reader::{Expected, Front, Reader, Role};
+use ch_reader::{Expected, Reader, Role};
 use ch_wire::{Answer, answer_bytes};
 use std::alloc::Global;
 
@@ -23,29 +22,12 @@ fn reader_of_frames(alloc: Global) -> Result<Reader, OutOfMemory>
 }
 
 /// A reader that waits for an item of this kind.
-fn reader_of(alloc: Global, expected: Expected) -> Result<Reader, OutOfMemory>
+pub(crate) fn reader_of(alloc: Global, expected: Expected) -> Result<Reader, OutOfMemory>
     ensures { IfOk result (λ reader. reader ≡ Waits expected []) }
 {
     match expected {
         Expected::Request => Reader::new(alloc, Role::Target),
         Expected::Answer => Reader::new(alloc, Role::Opener),
         Expected::Frame => reader_of_frames(alloc),
-    }
-}
-
-/// What stands at the front of these bytes, and how many of them are of it.
-pub(crate) fn front_of(
-    alloc: Global,
-    expected: Expected,
-    bytes: &[u8],
-) -> Result<(Front, usize), OutOfMemory>
-    ensures { IfOk result (λ front. front ≡ reading expected bytes.now) }
-{
-    let mut reader = reader_of(alloc, expected)?;
-    let count = reader.feed(bytes)?;
-    match reader.take() {
-        Ok(None) => Ok((Front::Unfinished, count)),
-        Ok(Some(item)) => Ok((Front::Whole(item), count)),
-        Err(error) => Ok((Front::Refused(error), count)),
     }
 }

@@ -6,11 +6,12 @@ ghost use Rattle.std.specs.Str.{bytes_eq};
 ghost use Rattle.ch_base.specs.declared.memory.Stop.TheVariants as stops;
 ghost use Rattle.ch_watch.specs.Same.{same_node as same_node_of};
 ghost use Rattle.ch_model.specs.HostState.{Socket};
-ghost use Rattle.ch_model.specs.HostSteps.{is_socket, link_with, own_address};
+ghost use Rattle.ch_model.specs.HostSteps.{is_socket, link_with, own_address, after_steps};
 ghost use Rattle.ch_model.specs.HostItems.{is_mismatch, refusal_of, asks_link as asks_link_of, reads_request as reads_request_of, heard_answer, reads_on as reads_on_of, reads_other as reads_other_of, reads as reads_of};
 ghost use Rattle.ch_model.specs.Host.{front_of, handles as handles_of, host_next};
 ghost use Rattle.ch_endpoint.specs.Calls.{Stops};
-ghost use Rattle.ch_endpoint.specs.Taking.{peer_host_of};
+ghost use Rattle.ch_endpoint.specs.Taking.{peer_host_of, handled};
+ghost use Rattle.ch_endpoint.specs.ReadySets.{ready_in};
 
 use crate::acts::{followed, one};
 use crate::state::State;
@@ -19,6 +20,7 @@ use ch_link::{LinkAnswer, LinkIn};
 use ch_model::Step;
 use ch_reader::{Front, Item};
 use ch_wire::{Answer, Request};
+use std::alloc::Global;
 
 /// An answer as a link hears it.
 fn heard(answer: Answer) -> LinkAnswer
@@ -149,4 +151,59 @@ impl State {
             Item::Frame(frame) => self.reads_other(sock, Item::Frame(frame)),
         }
     }
+
+    /// An item was taken from a socket's bytes: that is told, and the item is read.
+    fn takes(&mut self, sock: u64, item: Item) -> Result<Vec<Step>, Stop>
+        ensures { (socket : Socket) → find (is_socket sock) self.old.sockets ≡ Some socket → MatchResult result (λ steps. after_steps (Step.Read sock ∷ []) (reads_of socket item self.old) ≡ Ok (steps.items, self.new)) (λ e. Stops e (after_steps (Step.Read sock ∷ []) (reads_of socket item self.old))) }
+    {
+        match self.reads(sock, item) {
+            Ok(more) => match told_first(self.alloc(), sock, more) {
+                Ok(steps) => Ok(steps),
+                Err(_) => Err(Stop::OutOfMemory),
+            },
+            Err(e) => Err(e),
+        }
+    }
+
+    /// What stands at the front of a socket's bytes is handled, with all that follows.
+    fn handles(&mut self, sock: u64) -> Result<Vec<Step>, Stop>
+        requires { ready_in (find (is_socket sock) self.old.sockets) ≡ true }
+        ensures { (socket : Socket) → find (is_socket sock) self.old.sockets ≡ Some socket → MatchResult result (λ steps. handles_of socket (front_of socket) self.old ≡ Ok (steps.items, self.new)) (λ e. Stops e (handles_of socket (front_of socket) self.old)) }
+    {
+        match self.sockets.take(sock) {
+            Err(_) => Err(Stop::OutOfMemory),
+            Ok(front) => self.handles_front(sock, front),
+        }
+    }
+
+    /// What was taken from the front of a socket's bytes is handled.
+    fn handles_front(&mut self, sock: u64, front: Front) -> Result<Vec<Step>, Stop>
+        ensures { (socket : Socket) → find (is_socket sock) self.old.sockets ≡ Some socket → MatchResult result (λ steps. handled front socket self.old ≡ Ok (steps.items, self.new)) (λ e. Stops e (handled front socket self.old)) }
+    {
+        match front {
+            Front::Unfinished => Ok(Vec::new(self.alloc())),
+            Front::Refused(_) => self.fails_at(sock),
+            Front::Whole(item) => self.takes(sock, item),
+        }
+    }
+
+    /// One item is handled, of the socket with the lowest number that has one.
+    pub(crate) fn next(&mut self) -> Result<Option<Vec<Step>>, Stop>
+        ensures { MatchResult result (λ next. host_next self.old ≡ Ok (option_map (λ steps. steps.items) next, self.new)) (λ e. Stops e (host_next self.old)) }
+    {
+        match self.sockets.first_ready() {
+            None => Ok(None),
+            Some(sock) => match self.handles(sock) {
+                Ok(steps) => Ok(Some(steps)),
+                Err(e) => Err(e),
+            },
+        }
+    }
+}
+
+/// The step that tells of an item that is handled, and the steps that follow.
+fn told_first(alloc: Global, sock: u64, more: Vec<Step>) -> Result<Vec<Step>, OutOfMemory>
+    ensures { IfOk result (λ steps. steps.items ≡ Step.Read sock ∷ more.items) }
+{
+    followed(one(alloc, Step::Read { sock })?, more)
 }

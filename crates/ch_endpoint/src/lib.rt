@@ -18,6 +18,7 @@ mod payloads;
 mod socket;
 mod sockets;
 mod state;
+mod unread;
 
 pub use ch_model::{EndError, Place, SocketEvent, Step, Weight};
 pub use host::Host;

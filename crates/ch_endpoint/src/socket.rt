@@ -1,14 +1,15 @@
 //! A host's end of a socket.
 
 ghost use Rattle.std.specs.Prelude.{◌≡◌, [], ◌++◌, None, Some, IfOk, OnOk};
-ghost use Rattle.ch_endpoint.specs.Taking.{comes_from as comes_from_of};
+ghost use Rattle.ch_endpoint.specs.Taking.{passed, comes_from as comes_from_of};
 ghost use Rattle.ch_model.specs.HostLinks.{dialed};
 ghost use Rattle.ch_model.specs.Stages.{Open, is_open as is_open_of, is_pending as is_pending_of};
-ghost use Rattle.ch_model.specs.Host.{accepted};
+ghost use Rattle.ch_model.specs.Host.{accepted, front_of, is_ready as is_ready_of};
 ghost use Rattle.ch_endpoint.specs.Ends.{ended};
 
+use crate::unread::Unread;
 use ch_base::{Address, OutOfMemory, Text};
-use ch_reader::Expected;
+use ch_reader::{Expected, Front};
 use std::alloc::Global;
 use std::marker::Model;
 
@@ -28,8 +29,7 @@ pub(crate) struct Socket {
     pub(crate) peer_host: Option<Text>,
     pub(crate) standing: Standing,
     pub(crate) user: Option<(u32, Address)>,
-    pub(crate) expected: Expected,
-    pub(crate) since: Vec<u8>,
+    pub(crate) unread: Unread,
 }
 
 impl Model for Socket {
@@ -39,7 +39,7 @@ impl Model for Socket {
 
     ghost use Rattle.ch_endpoint.specs.Stages.{stage_of};
 
-    ghost view = { λ s. record { number = s.number; peer_host = s.peer_host; stage = stage_of s.standing; user = s.user; expected = s.expected; since = s.since.items } };
+    ghost view = { λ s. record { number = s.number; peer_host = s.peer_host; stage = stage_of s.standing; user = s.user; expected = s.unread.expected; since = s.unread.since } };
 }
 
 impl Socket {
@@ -52,8 +52,7 @@ impl Socket {
             peer_host: None,
             standing: Standing::Pending,
             user: Some((end, peer)),
-            expected: Expected::Answer,
-            since: Vec::new(alloc),
+            unread: Unread::new(alloc, Expected::Answer),
         }
     }
 
@@ -62,7 +61,7 @@ impl Socket {
         ensures { self.new ≡ ended self.old }
     {
         self.standing = Standing::Ended;
-        self.since.clear();
+        self.unread.clear();
     }
 
     /// A socket that was accepted.
@@ -74,8 +73,7 @@ impl Socket {
             peer_host: Some(peer_host),
             standing: Standing::Open,
             user: None,
-            expected: Expected::Request,
-            since: Vec::new(alloc),
+            unread: Unread::new(alloc, Expected::Request),
         }
     }
 
@@ -133,11 +131,27 @@ impl Socket {
         self.standing = Standing::Open;
     }
 
+    /// Whether it is open, and an item or a refusal stands at the front of its bytes.
+    pub(crate) fn is_ready(&self) -> bool
+        ensures { result ≡ is_ready_of self.now }
+    {
+        self.is_open() && self.unread.is_ready()
+    }
+
+    /// What stands at the front of its bytes; an item is taken.
+    pub(crate) fn take(&mut self) -> Result<Front, OutOfMemory>
+        ensures front { IfOk result (λ front. front ≡ (front_of self.old).0) }
+        ensures left { OnOk result (self.new ≡ passed (front_of self.old).0 (front_of self.old).1 self.old) }
+        ensures number { self.new.number ≡ self.old.number }
+    {
+        self.unread.take()
+    }
+
     /// Bytes are kept behind those that are.
     pub(crate) fn feed(&mut self, bytes: &[u8]) -> Result<(), OutOfMemory>
-        ensures { OnOk result (self.new ≡ record self.old { since = self.old.since ++ bytes.now }) }
+        ensures fed { OnOk result (self.new ≡ record self.old { since = self.old.since ++ bytes.now }) }
+        ensures number { self.new.number ≡ self.old.number }
     {
-        self.since.extend_from_slice(bytes)?;
-        Ok(())
+        self.unread.feed(bytes)
     }
 }

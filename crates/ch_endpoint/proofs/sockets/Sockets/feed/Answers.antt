@@ -1,14 +1,29 @@
-use Rattle.std.proofs.Common.{refl, ap, sym, ◌++◌, ◌∙◌}
+use Rattle.std.proofs.Common.{refl, ap, sym, find, ◌∙◌}
+use Rattle.std.specs.Map.{values_of}
 use Rattle.ch_model.specs.HostState.{Socket}
-use Rattle.ch_model.specs.HostSteps.{is_socket}
-use Rattle.ch_endpoint.specs.Ends.{fed_one}
-use Rattle.ch_endpoint.proofs.Tables.{none_there, end_changed}
+use Rattle.ch_model.specs.HostSteps.{store_socket}
+use Rattle.ch_model.specs.Host.{is_ready}
+use Rattle.ch_endpoint.specs.Ends.{fed_one, fed_among}
+use Rattle.ch_endpoint.proofs.SocketTables.{written, absent, told_idle, told_noted, told_note, told_same_set, on_ok}
 use Rattle.ch_endpoint.proofs.sockets.Sockets.feed.Goals as goal
 
-pub returns-in-None : goal.returns-in-None
-returns-in-None c = sym (ap (λ o. fed_one c.args.bytes.now o c.args.self.now) (none_there (is_socket c.args.number) c.args.self.now (sym c.place.ensures.place ∙ c.in-None.is)))
+pub invariant_of-self-in_err-insert-in-Some : goal.invariant_of-self-in_err-insert-in-Some
+invariant_of-self-in_err-insert-in-Some c = (written c.args.number c.self.inside.table.entries _ c.self.inside.ready c.insert.new.self c.in-Some.socket.now c.in-Some.socket.now c.self.invariant c.in-Some.ensures.value refl (c.get_mut.follows.holds c.in-Some.socket.now).0 (told_same_set c.args.number c.self.inside.table.entries c.self.inside.ready c.insert.new.self c.in-Some.socket.now c.in-Some.socket.now c.self.invariant c.in-Some.ensures.value refl c.in_err-insert-in-Some.ensures.err)).keeps
 
-pub returns-in_ok-feed-in-Some : goal.returns-in_ok-feed-in-Some
-returns-in_ok-feed-in-Some c =
-    let at = end_changed (λ (s : Socket). record s { since = s.since ++ c.args.bytes.now }) (λ s. refl) c.args.number c.args.self.now c.self.inside.rows.items c.in-Some.place c.self.view_is (sym c.place.ensures.place ∙ c.in-Some.is) c.index_mut.result.now c.feed.new.self c.index_mut.ensures.value c.in_ok-feed-in-Some.ensures in
-    at.1 ∙ sym (ap (λ o. fed_one c.args.bytes.now o c.args.self.now) at.0)
+pub invariant_of-self-in-Some : goal.invariant_of-self-in-Some
+invariant_of-self-in-Some c = (written c.args.number c.self.inside.table.entries _ c.self.inside.ready c.note.new.ready c.in-Some.socket.now c.feed-fed.new.self c.self.invariant c.in-Some.ensures.value c.feed-fed.ensures.number (c.get_mut.follows.holds c.feed-fed.new.self).0 (told_note c.self.inside.ready c.note.new.ready c.args.number c.is_ready.result (is_ready c.feed-fed.new.self) c.is_ready.ensures (told_noted c.self.inside.ready c.insert.new.self c.note.new.ready c.args.number c.is_ready.result c.in_ok-insert-in-Some.ensures.updates.0 c.note.ensures))).keeps
+
+pub returns-in-None : goal.returns-in-None
+returns-in-None c =
+    ap (λ t. values_of t.entries) c.get_mut.follows.holds-at-none
+    ∙ sym (ap (λ o. fed_one c.args.bytes.now o (values_of c.self.inside.table.entries)) (absent c.args.number c.self.inside.table.entries c.self.invariant.under c.in-None.ensures.value))
+    ∙ ap (fed_among c.args.bytes.now c.args.number) c.self.view_is
+
+pub returns-in_ok-insert-in-Some : goal.returns-in_ok-insert-in-Some
+returns-in_ok-insert-in-Some c =
+    let at = written c.args.number c.self.inside.table.entries _ c.self.inside.ready c.note.new.ready c.in-Some.socket.now c.feed-fed.new.self c.self.invariant c.in-Some.ensures.value c.feed-fed.ensures.number (c.get_mut.follows.holds c.feed-fed.new.self).0 (told_note c.self.inside.ready c.note.new.ready c.args.number c.is_ready.result (is_ready c.feed-fed.new.self) c.is_ready.ensures (told_noted c.self.inside.ready c.insert.new.self c.note.new.ready c.args.number c.is_ready.result c.in_ok-insert-in-Some.ensures.updates.0 c.note.ensures)) in
+    on_ok c.feed-fed.result _ _ (λ fed.
+    at.stored
+    ∙ ap (λ s. store_socket s (values_of c.self.inside.table.entries)) fed
+    ∙ sym (ap (λ o. fed_one c.args.bytes.now o (values_of c.self.inside.table.entries)) at.found)
+    ∙ ap (fed_among c.args.bytes.now c.args.number) c.self.view_is) c.feed-fed.ensures.fed

@@ -1,13 +1,7 @@
-use Rattle.std.proofs.Common.{sym, ap, get_or, Some, ◌∙◌}
-use Rattle.ch_model.specs.HostState.{Socket}
+use Rattle.std.proofs.Common.{ap, find, ◌∙◌}
 use Rattle.ch_model.specs.HostSteps.{is_socket}
-use Rattle.ch_endpoint.proofs.Tables.{none_there, found_there}
+use Rattle.ch_endpoint.proofs.SocketTables.{turned, found_by}
 use Rattle.ch_endpoint.proofs.sockets.Sockets.get.Goals as goal
 
-pub returns-in-None : goal.returns-in-None
-returns-in-None c = sym (none_there (is_socket c.args.number) c.args.self.now (sym c.place.ensures.place ∙ c.in-None.is))
-
-pub returns-in-Some : goal.returns-in-Some
-returns-in-Some c =
-    let d : Socket = c.index.result.now in
-    ap Some (c.index.ensures ∙ ap (λ rows. get_or rows c.in-Some.place d) c.self.view_is) ∙ sym (found_there (is_socket c.args.number) d c.args.self.now c.in-Some.place (sym c.place.ensures.place ∙ c.in-Some.is))
+pub returns : goal.returns
+returns c = c.get.ensures.value ∙ found_by _ c.args.number (turned c.args.number) _ c.self.invariant.under ∙ ap (find (is_socket c.args.number)) c.self.view_is

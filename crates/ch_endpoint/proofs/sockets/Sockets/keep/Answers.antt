@@ -1,10 +1,11 @@
-use Rattle.std.proofs.Common.{sym, ap, ◌∙◌}
+use Rattle.std.proofs.Common.{ap, sym, ◌∙◌}
 use Rattle.ch_model.specs.HostState.{Socket}
-use Rattle.ch_endpoint.proofs.Tables.{socket_kept, socket_new}
+use Rattle.ch_model.specs.HostSteps.{store_socket}
+use Rattle.ch_endpoint.proofs.SocketTables.{inserted}
 use Rattle.ch_endpoint.proofs.sockets.Sockets.keep.Goals as goal
 
-pub returns-in-Some : goal.returns-in-Some
-returns-in-Some c = socket_kept c.args.socket c.socket.inside.number c.args.self.now c.self.inside.rows.items c.in-Some.place (ap (λ (s : Socket). s.number) c.socket.view_is) c.self.view_is (sym c.place.ensures.place ∙ c.in-Some.is)
+pub invariant_of-self-2 : goal.invariant_of-self-2
+invariant_of-self-2 c = (inserted c.socket.inside.number _ _ c.self.inside.ready c.remove.new.self c.args.socket c.self.invariant (ap (λ (s : Socket). s.number) (sym c.socket.view_is)) c.requires c.in_ok-insert.ensures.entries c.remove.ensures.updates.0).1
 
-pub returns-in_ok-push-in-None : goal.returns-in_ok-push-in-None
-returns-in_ok-push-in-None c = socket_new c.args.socket c.socket.inside.number c.args.self.now c.self.inside.rows.items c.push.new.self.items (ap (λ (s : Socket). s.number) c.socket.view_is) c.self.view_is (sym c.place.ensures.place ∙ c.in-None.is) c.in_ok-push-in-None.ensures.items
+pub returns : goal.returns
+returns c = (inserted c.socket.inside.number _ _ c.self.inside.ready c.remove.new.self c.args.socket c.self.invariant (ap (λ (s : Socket). s.number) (sym c.socket.view_is)) c.requires c.in_ok-insert.ensures.entries c.remove.ensures.updates.0).0 ∙ ap (store_socket c.args.socket) c.self.view_is
