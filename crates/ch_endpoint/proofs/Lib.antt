@@ -10,3 +10,4 @@ pub mod Endpoints
 pub mod FramesRead
 pub mod Longer
 pub mod SocketTables
+pub mod NextItem

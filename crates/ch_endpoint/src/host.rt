@@ -1,11 +1,11 @@
 //! The host's calls.
 
-ghost use Rattle.std.specs.Prelude.{◌≡◌, true, false, IfOk, IfErr, IsErr, IsErrOf, OnErr, MatchResult, Ok, Err};
+ghost use Rattle.std.specs.Prelude.{◌≡◌, true, false, option_map, IfOk, IfErr, IsErr, IsErrOf, OnErr, MatchResult, Ok, Err};
 ghost use Rattle.ch_model.specs.HostCalls.{host_new, host_open, host_connect, host_send, host_close, host_close_endpoint, host_room, host_timer_runs};
 ghost use Rattle.ch_base.specs.declared.memory.Stop.TheVariants as stops;
 ghost use Rattle.ch_model.specs.declared.step.EndError.TheVariants as errors;
 ghost use Rattle.ch_model.specs.HostSteps.{link_with};
-ghost use Rattle.ch_model.specs.Host.{host_on};
+ghost use Rattle.ch_model.specs.Host.{host_on, host_next};
 ghost use Rattle.ch_endpoint.specs.Calls.{Fails, Stops, Leaves, is_want_of};
 
 use crate::state::State;
@@ -153,6 +153,30 @@ impl Host {
             Err(_) => {
                 self.failed = true;
                 Err(Stop::OutOfMemory)
+            }
+        }
+    }
+
+    /// Handles one item, of the socket with the lowest number that has one, with all that follows at this host:
+    /// requests are answered, links come up and fail, and nodes are told. None comes exactly where no whole item
+    /// and no refusal is left in the bytes that were fed. It is refused with `Worn` where a count can't grow.
+    /// After either refusal the host answers `OutOfMemory` for good.
+    ///
+    /// It costs the item's bytes, what it writes, and the logarithm of how many sockets have an item; the sockets
+    /// and what else is kept unread aren't walked.
+    pub fn next(&mut self) -> Result<Option<Vec<Step>>, Stop>
+        ensures does { MatchResult result (λ next. host_next self.old.state ≡ Ok (option_map (λ steps. steps.items) next, self.new.state)) (λ e. Stops e (host_next self.old.state)) }
+        ensures err { OnErr result (self.new.failed ≡ true) }
+        ensures spent { self.old.failed ≡ true → IsErrOf result stops.OutOfMemory }
+    {
+        if self.failed {
+            return Err(Stop::OutOfMemory);
+        }
+        match self.state.next() {
+            Ok(next) => Ok(next),
+            Err(e) => {
+                self.failed = true;
+                Err(e)
             }
         }
     }
