@@ -1,11 +1,10 @@
 -- What follows where a frame was read, by what its id stands for.
-use Rattle.std.proofs.Common.{◌≡◌, ℕ, ◌+◌, ◌*◌, Bool, true, false, not, cond, ◌&&◌, ◌==◌, nat_le, nat_lt, List, [], ◌∷◌, ◌++◌, length, Option, Some, None, Result, Ok, Err, refl, ap, sym, ◌∙◌}
+use Rattle.std.proofs.Common.{◌≡◌, ℕ, ◌+◌, ◌*◌, Bool, true, false, not, cond, ◌&&◌, ◌==◌, nat_le, nat_lt, List, [], ◌∷◌, ◌++◌, length, Some, None, Result, Ok, Err, refl, ap, sym, ◌∙◌}
 use Rattle.ch_base.specs.declared.address.Address.{Address}
 use Rattle.ch_base.specs.declared.event.Event.TheVariants as events
 use Rattle.ch_base.specs.declared.memory.Stop.TheVariants.{Worn}
 use Rattle.ch_wire.specs.declared.frame.Frame.TheVariants as frames
 use Rattle.ch_light.specs.declared.TheConstants.{FIRST_ID, MOST_IDS}
-use Rattle.ch_light.specs.declared.Connection.{Connection}
 use Rattle.ch_light.specs.declared.error.LightError.{LightError}
 use Rattle.ch_light.specs.declared.error.LightError.TheVariants.{Spent, NotNext}
 use Rattle.ch_light.specs.Ids.{opened, created_of, conn_of, closed_of, closed_by}
@@ -17,7 +16,6 @@ use Rattle.ch_endpoint.specs.Waits.{closed_among}
 use Rattle.ch_endpoint.specs.Arrivals.{may_create, creating, closing_id, number_of, next_number, arrives_as, departs_as}
 use Rattle.ch_endpoint.proofs.Tables.{key_with}
 use Rattle.ch_endpoint.proofs.Arriving.{created_so}
-use Rattle.ch_endpoint.proofs.Heard.{with_links}
 
 -- ---- a connection that is opened
 

@@ -1,5 +1,5 @@
 -- One item that is handled, of the first socket that has one.
-use Rattle.std.proofs.Common.{◌≡◌, ℕ, Bool, true, false, List, [], ◌∷◌, ◌++◌, find, Option, Some, None, Result, Ok, Err, MatchResult, refl, ap, sym, subst, ◌∙◌}
+use Rattle.std.proofs.Common.{◌≡◌, ℕ, true, List, [], ◌∷◌, find, Option, Some, None, Result, Ok, refl, ap, sym, subst, ◌∙◌}
 use Rattle.ch_base.specs.declared.memory.Stop.{Stop}
 use Rattle.ch_base.specs.declared.memory.Stop.TheVariants.{OutOfMemory, Worn}
 use Rattle.ch_reader.specs.declared.item.Front.{Front}

@@ -1,8 +1,7 @@
 -- A table of sockets by number, seen as the list of them, and the set of those that have something to handle.
-use Rattle.std.proofs.Common.{◌≡◌, ℕ, ◌+◌, ◌<◌, ◌≤◌, Bool, true, false, cond, ◌==◌, nat_lt, List, [], ◌∷◌, ◌++◌, length, find, Option, Some, None, Result, Ok, Err, OnOk, IfOk, refl, ap, sym, subst, ◌∙◌, arith}
+use Rattle.std.proofs.Common.{◌≡◌, ℕ, ◌<◌, ◌≤◌, Bool, true, false, cond, ◌==◌, nat_lt, List, [], ◌∷◌, length, find, Option, Some, None, Result, Ok, Err, OnOk, IfOk, refl, ap, sym, subst, ◌∙◌, arith}
 use Rattle.std.specs.Map.{lookup, set_value, values_of}
 use Rattle.std.specs.List.{list_any}
-use Rattle.std.specs.Bool.{IsTrue}
 use Rattle.std.specs.Ordering.{nat_cmp, is_gt}
 use Rattle.std.specs.declared.cmp.Ordering.TheVariants.{Greater}
 use Rattle.std.specs.Cmp.{nat_cmp_is}
@@ -16,7 +15,7 @@ use Rattle.ch_model.specs.HostState.{Socket}
 use Rattle.ch_model.specs.HostSteps.{is_socket, store_socket}
 use Rattle.ch_model.specs.Host.{is_ready, lower, first_ready}
 use Rattle.ch_endpoint.specs.ReadySets.{ready_in, UnderNumbers, NumbersApart, IsReadySet, KeepsSockets}
-use Rattle.ch_endpoint.proofs.Tables.{number_is, number_same, replaced, found_replaced, find_other, found_passes, socket_stored}
+use Rattle.ch_endpoint.proofs.Tables.{number_is, number_same, found_replaced, find_other, found_passes, socket_stored}
 
 pub turned : (a b : ℕ) → (a == b) ≡ (b == a)
 turned a b = both (a == b) (b == a) refl refl

@@ -1,10 +1,10 @@
-use Rattle.std.proofs.Common.{refl, ap, sym, find, ◌∙◌}
+use Rattle.std.proofs.Common.{refl, ap, sym, ◌∙◌}
 use Rattle.std.specs.Map.{values_of}
 use Rattle.ch_model.specs.HostState.{Socket}
 use Rattle.ch_model.specs.HostSteps.{store_socket}
 use Rattle.ch_model.specs.Host.{is_ready}
 use Rattle.ch_endpoint.specs.Ends.{opened_one, opened_among}
-use Rattle.ch_endpoint.proofs.SocketTables.{written, absent, told_idle, told_noted, told_note, told_same_set, on_ok}
+use Rattle.ch_endpoint.proofs.SocketTables.{written, absent, told_noted, told_note, told_same_set}
 use Rattle.ch_endpoint.proofs.sockets.Sockets.open.Goals as goal
 
 pub invariant_of-self-in_err-insert-in-Some : goal.invariant_of-self-in_err-insert-in-Some

@@ -1,10 +1,9 @@
-use Rattle.std.proofs.Common.{refl, ap, sym, find, ◌∙◌}
+use Rattle.std.proofs.Common.{ap, sym, find, ◌∙◌}
 use Rattle.std.specs.Map.{values_of}
-use Rattle.ch_model.specs.HostState.{Socket}
 use Rattle.ch_model.specs.HostSteps.{is_socket, store_socket}
 use Rattle.ch_model.specs.Host.{is_ready}
 use Rattle.ch_endpoint.specs.Taking.{front_at, taken_one, taken_among}
-use Rattle.ch_endpoint.proofs.SocketTables.{written, absent, told_idle, told_noted, told_note, told_same_set, number_found, on_ok, if_same}
+use Rattle.ch_endpoint.proofs.SocketTables.{written, absent, told_note, number_found, on_ok, if_same}
 use Rattle.ch_endpoint.proofs.sockets.Sockets.take.Goals as goal
 
 pub invariant_of-self-in-Some : goal.invariant_of-self-in-Some

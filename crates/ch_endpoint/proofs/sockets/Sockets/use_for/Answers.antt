@@ -1,4 +1,4 @@
-use Rattle.std.proofs.Common.{refl, ap, sym, subst, find, ◌∙◌}
+use Rattle.std.proofs.Common.{refl, ap, sym, subst, ◌∙◌}
 use Rattle.std.specs.Map.{values_of}
 use Rattle.ch_model.specs.HostState.{Socket}
 use Rattle.ch_model.specs.HostSteps.{store_socket}
