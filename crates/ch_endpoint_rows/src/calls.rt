@@ -13,21 +13,23 @@ pub fn host_at(alloc: Global, port: u16) -> Result<Host, Fail> {
 }
 
 #[test]
-fn opens_a_number_once(rt: HostRuntime) {
+fn opens_a_number_once(rt: HostRuntime) -> Result<(), Fail> {
     let mut host = host_at(rt.alloc(), 1)?;
     assert_eq!(rt; host.open(0)?, true);
     assert_eq!(rt; host.open(0)?, false);
+    Ok(())
 }
 
 #[test]
-fn connects_at_an_open_endpoint(rt: HostRuntime) {
+fn connects_at_an_open_endpoint(rt: HostRuntime) -> Result<(), Fail> {
     let mut host = host_at(rt.alloc(), 1)?;
     let peer = Address::read(rt.alloc(), b"h:2:0")?;
     assert_eq!(rt; host.connect(9, &peer, 0).err(), Some(EndError::NoEndPoint));
+    Ok(())
 }
 
 #[test]
-fn sends_what_is_short_on_what_is_open(rt: HostRuntime) {
+fn sends_what_is_short_on_what_is_open(rt: HostRuntime) -> Result<(), Fail> {
     let mut host = host_at(rt.alloc(), 1)?;
     let peer = Address::read(rt.alloc(), b"h:2:0")?;
     let long = Vec::from_elem(rt.alloc(), 0u8, 65_537)?;
@@ -42,14 +44,16 @@ fn sends_what_is_short_on_what_is_open(rt: HostRuntime) {
         Some(EndError::PayloadLong)
     );
     assert!(rt; host.send(0, 0, &long[1..], Weight::Free).is_ok());
+    Ok(())
 }
 
 #[test]
-fn closes_what_was_opened(rt: HostRuntime) {
+fn closes_what_was_opened(rt: HostRuntime) -> Result<(), Fail> {
     let mut host = host_at(rt.alloc(), 1)?;
     assert_eq!(rt; host.open(0)?, true);
     assert_eq!(rt; host.close(0, 0).err(), Some(EndError::NoConnection));
     assert_eq!(rt; host.close_endpoint(9).err(), Some(EndError::NoEndPoint));
     assert_eq!(rt; host.close_endpoint(0)?.len(), 1);
     assert_eq!(rt; host.close_endpoint(0).err(), Some(EndError::NoEndPoint));
+    Ok(())
 }

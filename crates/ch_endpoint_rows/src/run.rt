@@ -34,7 +34,7 @@ fn feed(alloc: Global, host: &mut Host, sock: u64, bytes: &[u8]) -> Result<(), F
 
 /// The opener's host asks, the other accepts, and a payload that comes byte by byte is told once it is whole.
 #[test]
-fn a_payload_comes_byte_by_byte(rt: HostRuntime) {
+fn a_payload_comes_byte_by_byte(rt: HostRuntime) -> Result<(), Fail> {
     let alloc = rt.alloc();
     let mut one = host_at(alloc, 1)?;
     let mut two = host_at(alloc, 2)?;
@@ -83,4 +83,5 @@ fn a_payload_comes_byte_by_byte(rt: HostRuntime) {
         },
         _ => assert!(rt; false),
     }
+    Ok(())
 }
