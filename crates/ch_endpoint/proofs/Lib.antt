@@ -1,0 +1,13 @@
+pub mod Tables
+pub mod Sends
+pub mod Heard
+pub mod Ended
+pub mod Sending
+pub mod Shutting
+pub mod Arriving
+pub mod ItemsRead
+pub mod Endpoints
+pub mod FramesRead
+pub mod Longer
+pub mod SocketTables
+pub mod NextItem

@@ -1,0 +1,16 @@
+pub mod Kept
+pub mod Stages
+pub mod Calls
+pub mod Places
+pub mod Waits
+pub mod Users
+pub mod Shuts
+pub mod Asks
+pub mod Dialing
+pub mod Opens
+pub mod Ends
+pub mod Arrivals
+pub mod Taking
+pub mod Unread
+pub mod Readers
+pub mod ReadySets

@@ -1,0 +1,214 @@
+//! The links of a host, by endpoint and peer.
+
+ghost use Rattle.std.specs.Prelude.{◌≡◌, ◌<◌, ◌+◌, true, [], length, position, find, IfSome, IfOk, OnOk, OnErr, MatchOption, None, Some};
+ghost use Rattle.std.specs.Option.{option_copied};
+ghost use Rattle.ch_model.specs.HostSteps.{is_link, link_or_new, store_link};
+ghost use Rattle.ch_model.specs.HostWrites.{is_counted, counted_in};
+ghost use Rattle.ch_model.specs.HostCalls.{carries};
+ghost use Rattle.ch_endpoint.specs.Places.{IsPlaceOf};
+ghost use Rattle.ch_endpoint.specs.Shuts.{peers_of};
+ghost use Rattle.ch_endpoint.specs.Waits.{giving, waiting, forgetting, closing};
+ghost use Rattle.ch_endpoint.specs.Arrivals.{may_create, creating, closing_id};
+
+use crate::link::{Link, Waiting};
+use ch_base::{Address, OutOfMemory};
+use ch_link::LinkState;
+use std::alloc::Global;
+use std::marker::Model;
+
+/// Links in order of first use. Contracts see the list of them.
+#[derive(Drop)]
+pub(crate) struct Links {
+    rows: Vec<Link>,
+}
+
+impl Model for Links {
+    ghost use Rattle.std.specs.Prelude.{List};
+    ghost use Rattle.ch_model.specs.HostState.{Link as LinkValue};
+
+    ghost Value = { List LinkValue };
+
+    ghost use Rattle.ch_endpoint.specs.Places.{Apart};
+
+    ghost view = { λ links. links.rows.items };
+
+    ghost invariant = { λ links. Apart links.rows.items };
+}
+
+impl Links {
+    /// No link was used.
+    pub(crate) fn new(alloc: Global) -> Links
+        ensures { result ≡ [] }
+    {
+        Links {
+            rows: Vec::new(alloc),
+        }
+    }
+
+    fn place(&self, end: u32, peer: &Address) -> Option<usize>
+        ensures place { result ≡ position (is_link end peer.now) self.now }
+        ensures within { IfSome result (λ place. place < length self.now) }
+    {
+        self.rows.iter().position(|link| link.is_for(end, peer))
+    }
+
+    /// The link of an endpoint with a peer, where one was used. It walks the links.
+    pub(crate) fn get(&self, end: u32, peer: &Address) -> Option<&Link>
+        ensures { option_copied result ≡ find (is_link end peer.now) self.now }
+    {
+        match self.place(end, peer) {
+            None => None,
+            Some(place) => Some(&self.rows[place]),
+        }
+    }
+
+    /// The place of the link of an endpoint with a peer, which is there from now on.
+    fn made(&mut self, end: u32, peer: &Address) -> Result<usize, OutOfMemory>
+        ensures { IfOk result (λ place. IsPlaceOf end peer.now self.old self.new place) }
+    {
+        match self.place(end, peer) {
+            Some(place) => Ok(place),
+            None => {
+                let place = self.rows.len();
+                let peer = peer.copy()?;
+                self.rows
+                    .push(Link::new(*self.rows.allocator(), end, peer))?;
+                Ok(place)
+            }
+        }
+    }
+
+    /// The link stands so from now on.
+    pub(crate) fn set_state(
+        &mut self,
+        end: u32,
+        peer: &Address,
+        state: LinkState,
+    ) -> Result<(), OutOfMemory>
+        ensures { OnOk result (self.new ≡ store_link (record (link_or_new end peer.now (find (is_link end peer.now) self.old)) { state = state }) self.old) }
+    {
+        let place = self.made(end, peer)?;
+        self.rows[place].set_state(state);
+        Ok(())
+    }
+
+    /// The connection gets the link's next id.
+    pub(crate) fn give(&mut self, end: u32, peer: &Address, conn: u64) -> Result<u32, OutOfMemory>
+        requires room { length (link_or_new end peer.now (find (is_link end peer.now) self.old)).given < 65536 }
+        ensures id { IfOk result (λ id. id ≡ 1024 + length (link_or_new end peer.now (find (is_link end peer.now) self.old)).given) }
+        ensures ok { OnOk result (self.new ≡ store_link (giving conn (link_or_new end peer.now (find (is_link end peer.now) self.old))) self.old) }
+    {
+        let place = self.made(end, peer)?;
+        let id = self.rows[place].give(conn)?;
+        Ok(id)
+    }
+
+    /// A frame waits behind those that wait for the link.
+    pub(crate) fn wait(
+        &mut self,
+        end: u32,
+        peer: &Address,
+        item: Waiting,
+    ) -> Result<(), OutOfMemory>
+        requires { is_counted item.1 ≡ true → counted_in (link_or_new end peer.now (find (is_link end peer.now) self.old)) < 4096 }
+        ensures { OnOk result (self.new ≡ store_link (waiting item (link_or_new end peer.now (find (is_link end peer.now) self.old))) self.old) }
+    {
+        let place = self.made(end, peer)?;
+        self.rows[place].wait(item)?;
+        Ok(())
+    }
+
+    /// What waits on the link is taken out.
+    pub(crate) fn take_waits(
+        &mut self,
+        end: u32,
+        peer: &Address,
+    ) -> Result<Vec<Waiting>, OutOfMemory>
+        ensures taken { IfOk result (λ items. items.items ≡ (link_or_new end peer.now (find (is_link end peer.now) self.old)).waits) }
+        ensures ok { OnOk result (self.new ≡ store_link (record (link_or_new end peer.now (find (is_link end peer.now) self.old)) { waits = [] }) self.old) }
+    {
+        let place = self.made(end, peer)?;
+        let items = self.rows[place].take_waits();
+        Ok(items)
+    }
+
+    /// What waits on the link and all its connections are forgotten, and its state stands.
+    pub(crate) fn forget(&mut self, end: u32, peer: &Address) -> Result<(), OutOfMemory>
+        ensures { OnOk result (self.new ≡ store_link (forgetting (link_or_new end peer.now (find (is_link end peer.now) self.old))) self.old) }
+    {
+        let place = self.made(end, peer)?;
+        self.rows[place].forget();
+        Ok(())
+    }
+
+    fn place_of(&self, end: u32, conn: u64) -> Option<usize>
+        ensures place { result ≡ position (carries end conn) self.now }
+        ensures within { IfSome result (λ place. place < length self.now) }
+    {
+        self.rows.iter().position(|link| link.carries(end, conn))
+    }
+
+    /// The peer of the link on which an endpoint has this connection open. It walks the links.
+    pub(crate) fn carrier(&self, end: u32, conn: u64) -> Option<&Address>
+        ensures { MatchOption result (find (carries end conn) self.now ≡ None) (λ peer. find (carries end conn) self.now ≡ Some (link_or_new end peer.now (find (is_link end peer.now) self.now))) }
+    {
+        match self.place_of(end, conn) {
+            None => None,
+            Some(place) => Some(&self.rows[place].peer),
+        }
+    }
+
+    /// A connection of the link is closed, where it is open.
+    pub(crate) fn close(&mut self, end: u32, peer: &Address, conn: u64) -> Result<(), OutOfMemory>
+        ensures { OnOk result (self.new ≡ store_link (closing conn (link_or_new end peer.now (find (is_link end peer.now) self.old))) self.old) }
+    {
+        let place = self.made(end, peer)?;
+        self.rows[place].close(conn);
+        Ok(())
+    }
+
+    /// The other end of the link has created its next id, for this connection.
+    pub(crate) fn create(
+        &mut self,
+        end: u32,
+        peer: &Address,
+        id: u32,
+        conn: u64,
+    ) -> Result<(), OutOfMemory>
+        requires { may_create id (link_or_new end peer.now (find (is_link end peer.now) self.old)).created ≡ true }
+        ensures { OnOk result (self.new ≡ store_link (creating conn (link_or_new end peer.now (find (is_link end peer.now) self.old))) self.old) }
+    {
+        let place = self.made(end, peer)?;
+        self.rows[place].create(id, conn)?;
+        Ok(())
+    }
+
+    /// The other end of the link has closed an id, where it is open.
+    pub(crate) fn close_id(&mut self, end: u32, peer: &Address, id: u32) -> Result<(), OutOfMemory>
+        ensures { OnOk result (self.new ≡ store_link (closing_id id (link_or_new end peer.now (find (is_link end peer.now) self.old))) self.old) }
+    {
+        let place = self.made(end, peer)?;
+        self.rows[place].close_id(id);
+        Ok(())
+    }
+
+    /// The peers of an endpoint's links, in order of first use.
+    pub(crate) fn peers_of(&self, end: u32) -> Result<Vec<Address>, OutOfMemory>
+        ensures { IfOk result (λ peers. peers.items ≡ peers_of end self.now) }
+    {
+        peers_among(*self.rows.allocator(), end, self.rows.as_slice())
+    }
+}
+
+/// The peers of an endpoint's links among these, in order.
+fn peers_among(alloc: Global, end: u32, links: &[Link]) -> Result<Vec<Address>, OutOfMemory>
+    ensures { IfOk result (λ peers. peers.items ≡ peers_of end links.now) }
+{
+    let mut peers = Vec::new(alloc);
+    for link in links {
+        if link.end == end {
+            peers.push(link.peer.copy()?)?;
+        }
+    }
+    Ok(peers)
+}
