@@ -11,6 +11,7 @@ ghost use Rattle.ch_model.specs.HostState.{Socket};
 ghost use Rattle.ch_model.specs.HostSteps.{is_socket, link_with, own_address};
 ghost use Rattle.ch_model.specs.HostItems.{gone_from as gone_from_of, is_gone as is_gone_of};
 ghost use Rattle.ch_model.specs.Host.{host_on, joins as joins_of};
+ghost use Rattle.ch_model.specs.Cell.{is_heard};
 ghost use Rattle.ch_endpoint.specs.Asks.{asks as asks_of};
 ghost use Rattle.ch_model.specs.declared.step.SocketEvent.TheVariants as events;
 ghost use Rattle.ch_endpoint.specs.Users.{user_of as user_of_socket, stands as stands_of};
@@ -73,6 +74,22 @@ impl State {
         match self.sockets.get(sock) {
             None => false,
             Some(socket) => socket.is_pending(),
+        }
+    }
+
+    /// Whether an event of a socket or a timer is heard here: the end of the socket stands as the event asks, or
+    /// the timer runs.
+    pub(crate) fn would_hear(&self, event: &SocketEvent) -> bool
+        ensures { result ≡ is_heard self.now event.now }
+    {
+        match event {
+            SocketEvent::Joined { sock } => self.stands_pending(*sock),
+            SocketEvent::Came { .. } => true,
+            SocketEvent::Refused { sock } => self.stands_pending(*sock),
+            SocketEvent::Fed { sock, .. } => self.stands_open(*sock),
+            SocketEvent::Ended { sock } => self.stands_open(*sock),
+            SocketEvent::Lost { sock } => self.stands_open(*sock),
+            SocketEvent::Late { end, peer } => self.timer_runs(*end, peer),
         }
     }
 

@@ -5,6 +5,7 @@ ghost use Rattle.ch_model.specs.HostCalls.{host_new, host_open, host_connect, ho
 ghost use Rattle.ch_base.specs.declared.memory.Stop.TheVariants as stops;
 ghost use Rattle.ch_model.specs.declared.step.EndError.TheVariants as errors;
 ghost use Rattle.ch_model.specs.HostSteps.{link_with};
+ghost use Rattle.ch_model.specs.Cell.{is_heard};
 ghost use Rattle.ch_model.specs.Host.{host_on, host_next};
 ghost use Rattle.ch_endpoint.specs.Calls.{Fails, Stops, Leaves, is_want_of};
 
@@ -179,6 +180,15 @@ impl Host {
                 Err(e)
             }
         }
+    }
+
+    /// Whether an event of a socket or a timer is heard: the end of its socket is pending, for `Joined` and `Refused`,
+    /// or open, for `Fed`, `Ended` and `Lost`, or its timer runs; `Came` always is. An event that isn't heard changes
+    /// nothing. It takes no memory.
+    pub fn hears(&self, event: &SocketEvent) -> bool
+        ensures { result ≡ is_heard self.now.state event.now }
+    {
+        self.state.would_hear(event)
     }
 
     /// Whether a timer runs for the link of an endpoint with a peer. It takes no memory.
