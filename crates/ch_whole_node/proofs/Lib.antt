@@ -1,0 +1,4 @@
+pub mod PairLists
+pub mod Lengths
+pub mod Losses
+pub mod Sorted
