@@ -4,6 +4,7 @@ use Rattle.std.specs.Option.{option_map, option_map_or}
 use Rattle.ch_base.specs.declared.memory.Stop.{Stop}
 use Rattle.ch_base.specs.declared.memory.Stop.TheVariants as stops
 use Rattle.ch_ident.specs.declared.reason.Reason.{Reason}
+use Rattle.ch_ident.specs.declared.reason.Reason.TheVariants.{NodeDown}
 use Rattle.ch_ident.specs.declared.message.Message.{Message}
 use Rattle.ch_mail.specs.declared.life.Life.{Life}
 use Rattle.ch_mail.specs.declared.life.Life.TheVariants.{Live, Doomed, Over}
@@ -84,6 +85,10 @@ opened_by process = if is_live process.life then (if nat_lt (length process.port
 -- a process that isn't over is over from then on, for that reason; what waits stays
 unfoldable pub ended : Process → Reason → Result Process MailError
 ended process reason = if is_over process.life then Err NotLive else Ok (record process { life = Over reason })
+
+-- the end of its node ends a process that isn't over; what waits stays
+abbrev pub downed : Process → Process
+downed process = if is_over process.life then process else record process { life = Over NodeDown }
 
 -- a live process is doomed, with that text; any other stays as it is
 unfoldable pub doomed : Process → List ℕ → Bool × Process

@@ -1,7 +1,8 @@
 //! The mail of a node: its processes by number.
 
-ghost use Rattle.std.specs.Prelude.{◌≡◌, [], false, length, nat_lt, slice_get, Some, None, Ok, Err, MatchResult, IfOk, OnErr};
+ghost use Rattle.std.specs.Prelude.{◌≡◌, [], false, length, nat_lt, slice_get, map, Some, None, Ok, Err, MatchResult, IfOk, OnErr};
 ghost use Rattle.std.specs.Option.{option_copied, option_map_or};
+ghost use Rattle.ch_mail.specs.Mail.{downed};
 
 use crate::error::MailError;
 use crate::life::Life;
@@ -96,6 +97,15 @@ impl Mail {
         }
     }
 
+    /// Ends every process that isn't over, by the end of its node. What waits stays. It takes no
+    /// memory.
+    /// Cost: a walk over the processes.
+    pub fn shut(&mut self)
+        ensures { self.new ≡ map downed self.old }
+    {
+        down_all(&mut self.processes);
+    }
+
     /// Appends a message to a process's mailbox, or to one of its ports. It is refused with `NotLive`
     /// exactly where the process is over or wasn't made or the port isn't there, and then with `Worn`
     /// exactly where the count of the process's messages can't grow. A refusal changes nothing.
@@ -177,5 +187,14 @@ impl Mail {
             None => 0,
             Some(process) => process.waiting(),
         }
+    }
+}
+
+/// Ends these processes by the end of their node.
+fn down_all(processes: &mut [Process])
+    ensures { processes.new ≡ map downed processes.old }
+{
+    for process in processes.iter_mut() {
+        process.down();
     }
 }

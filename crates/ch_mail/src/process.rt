@@ -34,7 +34,7 @@ impl Model for Process {
 }
 
 impl Process {
-    ghost use Rattle.ch_mail.specs.Mail.{Fails, newborn, waiting_in, given_to, taken_from, taken_from_port, opened_by, ended, doomed};
+    ghost use Rattle.ch_mail.specs.Mail.{Fails, newborn, waiting_in, given_to, taken_from, taken_from_port, opened_by, ended, downed, doomed};
 
     #[tactic(auto, unfolding(crate::specs::Mail::newborn, crate::specs::Mail::waiting_in))]
     pub fn new(alloc: Global) -> Process
@@ -92,6 +92,17 @@ impl Process {
         }
         self.life = Life::Over(reason);
         Ok(())
+    }
+
+    /// It is over from now on, by the end of its node. Where it was over it stays as it was.
+    #[tactic(auto, unfolding(crate::specs::Mail::waiting_in))]
+    pub fn down(&mut self)
+        ensures { self.new ≡ downed self.old }
+    {
+        if self.life.is_over() {
+            return;
+        }
+        self.life = Life::Over(Reason::NodeDown);
     }
 
     /// Takes the first message of a mark.

@@ -81,6 +81,13 @@ impl NameTable {
         self.table.shift_remove(name.bytes.as_slice())
     }
 
+    /// Drops every name.
+    pub fn clear(&mut self)
+        ensures { self.new ≡ [] }
+    {
+        self.table.clear();
+    }
+
     /// Drops the names of a process. It walks all names.
     pub fn drop_process(&mut self, process: u32)
         ensures { self.new ≡ filter (λ named. not (named.process == process)) self.old }

@@ -123,6 +123,13 @@ impl OpenNumbers {
         self.table.remove(&number)
     }
 
+    /// Closes every number.
+    pub fn close_all(&mut self)
+        ensures { self.new ≡ record self.old { waiting = [] } }
+    {
+        self.table.clear();
+    }
+
     /// Closes the numbers of an owner. It walks all that are open.
     pub fn close_owner(&mut self, owner: u32)
         ensures { self.new ≡ record self.old { waiting = filter (λ waiting. not (waiting.owner == owner)) self.old.waiting } }

@@ -205,6 +205,17 @@ impl Watches {
         }
     }
 
+    /// Closes every number, and drops every watch kept and every name. The next number stays. It takes
+    /// no memory.
+    /// Cost: a walk over all of them.
+    pub fn shut(&mut self)
+        ensures { self.new ≡ record self.old { waiting = []; watched = []; names = [] } }
+    {
+        self.numbers.close_all();
+        self.watched.clear();
+        self.names.clear();
+    }
+
     /// The process for which a name stands. It takes no memory.
     /// Cost: a look-up by key.
     #[tactic(auto, unfolding(crate::specs::Watches::find_of))]

@@ -2,7 +2,7 @@
 
 ghost use Rattle.std.specs.Prelude.{◌≡◌, ◌<◌, ◌^◌, length, MatchResult, IfErr, IfOk, Ok, Err, Some, None};
 ghost use Rattle.ch_model.specs.NodeCommands.{send_of, again_of, finish_of, fall_of, receive_of, take_port as take_port_of, open_port as open_port_of};
-ghost use Rattle.ch_model.specs.Node.{node_make, node_event};
+ghost use Rattle.ch_model.specs.Node.{node_make, node_shut, node_event};
 ghost use Rattle.ch_model.specs.NodeActs.{stopping};
 ghost use Rattle.ch_whole_node.specs.Calls.{Fails, KeepsBut};
 
@@ -131,6 +131,23 @@ impl State {
             return Err(CommandError::Dead);
         }
         Ok(self.make(None, Text::new(self.alloc()))?)
+    }
+
+    /// The node is shut, for good.
+    #[tactic(auto, unfolding(ch_model::specs::Node::node_shut))]
+    pub(crate) fn shut(&mut self) -> Result<Outcome, CommandError>
+        ensures does { MatchResult result (λ acts. node_shut self.old ≡ Ok (acts.items, self.new)) (λ e. Fails e (node_shut self.old)) }
+        ensures err { IfErr result (λ e. KeepsBut self.old self.new e) }
+    {
+        if self.is_shut {
+            return Err(CommandError::Dead);
+        }
+        let node = self.own.copy()?;
+        let acts = noted(self.alloc(), Note::Shut { node })?;
+        self.is_shut = true;
+        self.mail.shut();
+        self.watches.shut();
+        Ok(acts)
     }
 
     /// What a node makes of an event, where a stop is told as a refusal.

@@ -2,15 +2,16 @@
 
 ghost use Rattle.std.specs.Prelude.{◌≡◌, true, false, IfOk, IfErr, IsErrOf, MatchResult, Ok, Err};
 ghost use Rattle.std.specs.Option.{option_copied};
-ghost use Rattle.ch_model.specs.Node.{node_new, node_make, node_command, node_event, node_watched, target_node as target_node_of, node_life, node_waiting, node_args};
+ghost use Rattle.ch_model.specs.Node.{node_new, node_make, node_shut, node_command, node_event, node_watched, target_node as target_node_of, node_life, node_waiting, node_args};
 ghost use Rattle.ch_model.specs.declared.command.CommandError.TheVariants as errors;
 ghost use Rattle.ch_model.specs.NodeActs.{stopping};
+ghost use Rattle.ch_model.specs.NodeIds.{process_id};
 ghost use Rattle.ch_whole_node.specs.Calls.{Fails, Leaves, is_stop_of};
 
 use crate::acts::Outcome;
 use crate::state::State;
 use ch_base::{Address, Event, OutOfMemory, Room};
-use ch_ident::Ref;
+use ch_ident::{ProcessId, Ref};
 use ch_mail::Life;
 use ch_model::CommandError;
 use ch_static::{Command, Table};
@@ -112,6 +113,29 @@ impl Node {
         let done = self.state.make_asked();
         self.failed = is_stop(&done);
         done
+    }
+
+    /// The node is shut, for good: each of its processes that isn't over is over, with no note of its
+    /// own, and no number is open, no watch kept and no name stands any more. It is refused with `Dead`
+    /// exactly where the node is shut already. After `OutOfMemory` the node answers that for good.
+    pub fn shut(&mut self) -> Result<Outcome, CommandError>
+        ensures does { MatchResult result (λ acts. node_shut self.old.state ≡ Ok (acts.items, self.new.state)) (λ e. Fails e (node_shut self.old.state)) }
+        ensures err { IfErr result (λ e. Leaves self.old self.new e) }
+        ensures spent { self.old.failed ≡ true → IsErrOf result errors.OutOfMemory }
+    {
+        if self.failed {
+            return Err(CommandError::OutOfMemory);
+        }
+        let done = self.state.shut();
+        self.failed = is_stop(&done);
+        done
+    }
+
+    /// The id of the process with this number.
+    pub fn id(&self, counter: u32) -> Result<ProcessId, OutOfMemory>
+        ensures { IfOk result (λ p. p ≡ process_id self.now.state counter) }
+    {
+        self.state.id(counter)
     }
 
     /// The life of a process. None exactly where it wasn't made. It takes no memory.
