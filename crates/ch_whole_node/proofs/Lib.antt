@@ -2,3 +2,4 @@ pub mod PairLists
 pub mod Lengths
 pub mod Losses
 pub mod Sorted
+pub mod Keyed

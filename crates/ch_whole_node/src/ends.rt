@@ -73,14 +73,12 @@ impl State {
     fn tell_ends(&mut self, watches: &[Ref], reason: &Reason) -> Result<Outcome, Halt>
         ensures { MatchResult result (λ acts. each_in_turn (λ watch m. tell_end_of m watch reason.now) watches.now self.old ≡ Ok (acts.items, self.new)) (λ e. Halts e (each_in_turn (λ watch m. tell_end_of m watch reason.now) watches.now self.old)) }
     {
-        match watches {
-            [] => Ok(Vec::new(self.alloc())),
-            [watch, rest @ ..] => {
-                let acts = self.tell_end(watch, reason)?;
-                let told = self.tell_ends(rest, reason)?;
-                Ok(joined(acts, told)?)
-            }
+        let mut acts = Vec::new(self.alloc());
+        for watch in watches {
+            let mut told = self.tell_end(watch, reason)?;
+            acts.append(&mut told)?;
         }
+        Ok(acts)
     }
 
     fn end_mail(&mut self, number: u32, reason: Reason) -> Result<(), Halt>
@@ -104,7 +102,7 @@ impl State {
         self.end_mail(number, reason.copy()?)?;
         let ending = self.watches.ended(number)?;
         let acts = self.farewell(number, reason, &ending.names.items)?;
-        self.pairs.close_by(number)?;
+        self.pairs.close_by(number);
         let told = self.tell_ends(&ending.watches.items, reason)?;
         Ok(joined(acts, told)?)
     }

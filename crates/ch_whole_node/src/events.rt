@@ -7,7 +7,7 @@ ghost use Rattle.ch_model.specs.NodeArrivals.{lost_told as lost_told_of, peer_lo
 ghost use Rattle.ch_model.specs.Node.{node_event};
 ghost use Rattle.ch_whole_node.specs.Calls.{Halts};
 
-use crate::acts::{Outcome, joined};
+use crate::acts::Outcome;
 use crate::arrived::drop_peer;
 use crate::halt::Halt;
 use crate::lives::reason_of;
@@ -37,14 +37,12 @@ impl State {
     fn lost_all_told(&mut self, why: Why, lost: &[Waiting]) -> Result<Outcome, Halt>
         ensures { MatchResult result (λ acts. each_in_turn (lost_told_of why) lost.now self.old ≡ Ok (acts.items, self.new)) (λ e. Halts e (each_in_turn (lost_told_of why) lost.now self.old)) }
     {
-        match lost {
-            [] => Ok(Vec::new(self.alloc())),
-            [waiting, rest @ ..] => {
-                let acts = self.lost_told(why, waiting)?;
-                let told = self.lost_all_told(why, rest)?;
-                Ok(joined(acts, told)?)
-            }
+        let mut acts = Vec::new(self.alloc());
+        for waiting in lost {
+            let mut told = self.lost_told(why, waiting)?;
+            acts.append(&mut told)?;
         }
+        Ok(acts)
     }
 
     /// The link with a peer failed.

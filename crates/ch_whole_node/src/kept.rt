@@ -106,19 +106,18 @@ impl Pair {
         }
     }
 
-    /// The pair after all connections of a process are closed.
-    pub fn closed_by(self, by: u32) -> Pair
-        ensures { result ≡ closed_by_of by self }
+    /// All connections of a process are closed.
+    pub fn close_by(&mut self, by: u32)
+        ensures { self.new ≡ closed_by_of by self.old }
     {
-        let mut pair = self;
-        if pair.by == by {
-            pair.stage = match pair.stage {
-                Stage::Opened { .. } => Stage::Unopened,
-                Stage::Unopened => Stage::Unopened,
-                Stage::Broken => Stage::Broken,
-            };
+        if self.by != by {
+            return;
         }
-        pair
+        match self.stage {
+            Stage::Opened { .. } => self.stage = Stage::Unopened,
+            Stage::Unopened => {}
+            Stage::Broken => {}
+        }
     }
 
     /// The pair in its next epoch, without a connection.
@@ -136,38 +135,50 @@ impl Pair {
         })
     }
 
-    /// The pair after the link of its open connection failed.
-    fn broken(self) -> Result<Pair, Halt>
-        ensures { MatchResult result (λ lost. broken_of self self.to ≡ Ok lost) (λ e. Halts e (broken_of self self.to)) }
+    /// Its next epoch begins, without a connection.
+    #[tactic(auto, unfolding(ch_model::specs::NodePairs::next_epoch))]
+    fn renew(&mut self) -> Result<(), Halt>
+        ensures lost { MatchResult result (λ _. next_epoch_of self.old ≡ Ok self.new) (λ e. Halts e (next_epoch_of self.old)) }
+        ensures key { (self.new.by ≡ self.old.by) × (self.new.to ≡ self.old.to) }
+    {
+        self.epoch = growing(self.epoch)? + 1;
+        self.index = 0;
+        self.stage = Stage::Unopened;
+        Ok(())
+    }
+
+    /// The link of its open connection failed: it is broken, and where it goes to a name its next
+    /// epoch begins.
+    fn fail(&mut self) -> Result<(), Halt>
+        ensures lost { MatchResult result (λ _. broken_of self.old self.old.to ≡ Ok self.new) (λ e. Halts e (broken_of self.old self.old.to)) }
+        ensures key { (self.new.by ≡ self.old.by) × (self.new.to ≡ self.old.to) }
     {
         match &self.to {
-            Target::Named { .. } => self.next_epoch(),
-            Target::Process(_) => Ok(self.with_stage(Stage::Broken)),
-            Target::Port(_) => Ok(self.with_stage(Stage::Broken)),
+            Target::Named { .. } => self.renew(),
+            Target::Process(_) => {
+                self.stage = Stage::Broken;
+                Ok(())
+            }
+            Target::Port(_) => {
+                self.stage = Stage::Broken;
+                Ok(())
+            }
         }
     }
 
-    /// The pair at that stage.
-    fn with_stage(self, stage: Stage) -> Pair
-        ensures { result ≡ record self { mark = mark_of stage } }
-    {
-        let mut pair = self;
-        pair.stage = stage;
-        pair
-    }
-
-    /// The pair after the link with a peer failed.
+    /// The link with a peer failed. It takes no memory.
     #[tactic(auto, unfolding(ch_model::specs::NodePairs::lost_pair))]
-    pub fn lost(self, peer: &Address) -> Result<Pair, Halt>
-        ensures { MatchResult result (λ lost. lost_pair_of peer.now self ≡ Ok lost) (λ e. Halts e (lost_pair_of peer.now self)) }
+    pub fn lose(&mut self, peer: &Address) -> Result<(), Halt>
+        ensures lost { MatchResult result (λ _. lost_pair_of peer.now self.old ≡ Ok self.new) (λ e. Halts e (lost_pair_of peer.now self.old)) }
+        ensures key { (self.new.by ≡ self.old.by) × (self.new.to ≡ self.old.to) }
     {
         if !same_node(target_at(&self.to), peer) {
-            return Ok(self);
+            return Ok(());
         }
         match self.stage {
-            Stage::Opened { .. } => self.broken(),
-            Stage::Unopened => Ok(self),
-            Stage::Broken => Ok(self),
+            Stage::Opened { .. } => self.fail(),
+            Stage::Unopened => Ok(()),
+            Stage::Broken => Ok(()),
         }
     }
 }

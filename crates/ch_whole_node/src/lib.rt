@@ -17,6 +17,7 @@ mod events;
 mod halt;
 mod ids;
 mod kept;
+mod key;
 mod lives;
 mod messages;
 mod node;
