@@ -3,3 +3,4 @@ pub mod Lengths
 pub mod Losses
 pub mod Sorted
 pub mod Keyed
+pub mod Steps

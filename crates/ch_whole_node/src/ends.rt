@@ -3,7 +3,8 @@
 ghost use Rattle.std.specs.Prelude.{◌≡◌, map, MatchResult, IfOk, Ok};
 ghost use Rattle.ch_model.specs.declared.act.Act.TheVariants.{Close as CloseAct};
 ghost use Rattle.ch_mail.specs.Mail.{end_of};
-ghost use Rattle.ch_model.specs.NodeActs.{each_in_turn, or_unchanged};
+ghost use Rattle.ch_model.specs.NodeActs.{after, each_in_turn, or_unchanged};
+ghost use Rattle.ch_model.specs.NodePairs.{closed_pairs};
 ghost use Rattle.ch_model.specs.NodeEnds.{fallen as fallen_of, farewell as farewell_of, over as over_of};
 ghost use Rattle.ch_model.specs.NodeWatches.{tell_end as tell_end_of};
 ghost use Rattle.ch_whole_node.specs.Calls.{Halts};
@@ -15,6 +16,7 @@ use ch_base::OutOfMemory;
 use ch_ident::{Name, Reason, Ref};
 use ch_mail::MailError;
 use ch_model::{Act, Note};
+use ch_watch::Ending;
 use std::alloc::Global;
 
 /// These connections are closed.
@@ -93,6 +95,19 @@ impl State {
         }
     }
 
+    /// What is told of a process that is over, and to its watchers in order of arrival; its connections
+    /// are closed.
+    fn end_told(&mut self, number: u32, reason: &Reason, ending: &Ending) -> Result<Outcome, Halt>
+        ensures { MatchResult result (λ acts. after (farewell_of self.old number reason.now ending.now.names) (each_in_turn (λ watch m. tell_end_of m watch reason.now) ending.now.watches (record self.old { pairs = closed_pairs self.old.pairs number })) ≡ Ok (acts.items, self.new)) (λ e. Halts e (after (farewell_of self.old number reason.now ending.now.names) (each_in_turn (λ watch m. tell_end_of m watch reason.now) ending.now.watches (record self.old { pairs = closed_pairs self.old.pairs number })))) }
+    {
+        let names = ending.names.items.as_slice();
+        let acts = self.farewell(number, reason, names)?;
+        self.pairs.close_by(number);
+        let watches = ending.watches.items.as_slice();
+        let told = self.tell_ends(watches, reason)?;
+        Ok(joined(acts, told)?)
+    }
+
     /// A process is over, for this reason: its names fall, its connections are closed, and its
     /// watchers are told in order of arrival.
     #[tactic(auto, unfolding(ch_model::specs::NodeEnds::over))]
@@ -101,9 +116,6 @@ impl State {
     {
         self.end_mail(number, reason.copy()?)?;
         let ending = self.watches.ended(number)?;
-        let acts = self.farewell(number, reason, &ending.names.items)?;
-        self.pairs.close_by(number);
-        let told = self.tell_ends(&ending.watches.items, reason)?;
-        Ok(joined(acts, told)?)
+        self.end_told(number, reason, &ending)
     }
 }

@@ -1,6 +1,9 @@
 //! What a node makes of a message from node to node, and how a command sends one.
 
-ghost use Rattle.std.specs.Prelude.{◌≡◌, ◌++◌, MatchResult, IfOk, Ok};
+ghost use Rattle.std.specs.Prelude.{◌≡◌, ◌++◌, codes, is_some, MatchResult, IfOk, Ok};
+ghost use Rattle.ch_static.specs.Labels.{place_of};
+ghost use Rattle.ch_ident.specs.declared.reason.Reason.TheVariants.{Exception};
+ghost use Rattle.ch_model.specs.NodeEnds.{over as over_of};
 ghost use Rattle.ch_model.specs.NodeLives.{exit_text as exit_text_of, kill_text as kill_text_of};
 ghost use Rattle.ch_model.specs.NodeMessages.{handle as handle_of, is_for_peer as is_for_peer_of, ask as ask_of};
 ghost use Rattle.ch_model.specs.NodeAsks.{fail_unlabelled as fail_unlabelled_of, spawn_arrives as spawn_arrives_of};
@@ -40,6 +43,13 @@ fn kill_text(alloc: Global, text: &Text) -> Result<Text, OutOfMemory>
     with_front(alloc, b"kill ", text)
 }
 
+/// The text of the exception by which a process is over whose label is unknown.
+fn unknown_label(alloc: Global) -> Result<Text, OutOfMemory>
+    ensures { IfOk result (λ text. text ≡ codes "unknown label") }
+{
+    Text::of(alloc, b"unknown label")
+}
+
 /// Whether a peer may ask this.
 #[tactic(auto, unfolding(ch_model::specs::NodeMessages::is_for_peer))]
 fn is_for_peer(peer: &Address, message: &NodeMessage) -> bool
@@ -57,23 +67,34 @@ fn is_for_peer(peer: &Address, message: &NodeMessage) -> bool
 }
 
 impl State {
+    /// Whether the node's table has a label.
+    fn is_labelled(&self, label: &Name) -> Result<bool, OutOfMemory>
+        ensures { IfOk result (λ is. is ≡ is_some (place_of self.now.labels label.now)) }
+    {
+        let closure = Closure {
+            label: label.copy()?,
+            args: Text::new(self.alloc()),
+        };
+        Ok(self.labels.resolve(&closure).is_ok())
+    }
+
+    /// A process is over, as its label is unknown.
+    fn over_unlabelled(&mut self, number: u32) -> Result<Outcome, Halt>
+        ensures { MatchResult result (λ acts. over_of self.old number (Exception (codes "unknown label")) ≡ Ok (acts.items, self.new)) (λ e. Halts e (over_of self.old number (Exception (codes "unknown label")))) }
+    {
+        let text = unknown_label(self.alloc())?;
+        self.over(number, &Reason::Exception(text))
+    }
+
     /// A new process is over at once where the node's table lacks its label.
     #[tactic(auto, unfolding(ch_model::specs::NodeAsks::fail_unlabelled))]
     fn fail_unlabelled(&mut self, label: &Name, number: u32) -> Result<Outcome, Halt>
         ensures { MatchResult result (λ acts. fail_unlabelled_of self.old label.now number ≡ Ok (acts.items, self.new)) (λ e. Halts e (fail_unlabelled_of self.old label.now number)) }
     {
-        let alloc = self.alloc();
-        let closure = Closure {
-            label: label.copy()?,
-            args: Text::new(alloc),
-        };
-        match self.labels.resolve(&closure) {
-            Ok(_) => Ok(Vec::new(alloc)),
-            Err(_) => {
-                let text = Text::of(alloc, b"unknown label")?;
-                self.over(number, &Reason::Exception(text))
-            }
+        if self.is_labelled(label)? {
+            return Ok(Vec::new(self.alloc()));
         }
+        self.over_unlabelled(number)
     }
 
     /// A node does what a message asks, or takes the answer that it is.

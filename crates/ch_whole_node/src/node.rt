@@ -59,13 +59,32 @@ impl Node {
     }
 
     /// A process asks for something, where the link to the node that it is directed to has this room.
-    /// In this order, it is refused with `Unknown` where the process wasn't made; `Dead` where it acts
-    /// no more, or `Hale` where it would fall and isn't doomed; `Unknown` where it sends to a process or
-    /// port of this node that wasn't made; `Long` where the payload has more than 65,536 bytes; `NoRef`
-    /// where no such watch of it is open; `Full` and `Spent` where the link has no room; `Empty` where no
-    /// such message waits; `Taken` and `NoName` by what stands for the name; `Worn` where a count can't
-    /// grow. After a stop, `OutOfMemory` or `Worn`, the node answers `OutOfMemory` for good; any other
-    /// refusal changes nothing.
+    /// In this order, it is refused
+    ///
+    /// - with `Unknown` where the process wasn't made;
+    /// - with `Dead` where it acts no more, be it doomed or over; where it would fall, with `Hale` where
+    ///   it isn't doomed and `Dead` where it is over;
+    /// - with `Unknown` where it sends to a process or port of this node that wasn't made;
+    /// - with `Long` where the payload of its message, or of what asks for its spawn, has more than
+    ///   65,536 bytes;
+    /// - with `NoRef` where it takes back a watch that it hasn't open;
+    /// - with `Full` where what it sends is for another node, whose link isn't up and has 4,096 payloads
+    ///   waiting; a message on a broken pair, which goes nowhere, needs no room;
+    /// - with `Spent` where its message wants a new connection, and 65,535 were opened on the socket
+    ///   besides the node's own;
+    /// - with `Empty` where it takes a message and none of that mark, or in that port, waits;
+    /// - with `Taken` where it registers a name that stands, and `NoName` where it takes away one that
+    ///   doesn't;
+    /// - with `Worn` where a count can't grow.
+    ///
+    /// After a stop, `OutOfMemory` or `Worn`, the node answers `OutOfMemory` for good; any other refusal
+    /// changes nothing. What has no spelling in a message to another node is told as want of memory: a
+    /// text of an exit or a kill, or one with which a watched process fails, of more than 255 bytes or
+    /// with a byte that isn't from 0x20 to 0x7e.
+    ///
+    /// Cost: a message's pair is looked up by key, and the node's own connection to a peer by a walk over
+    /// the peers. The end of a process walks the pairs, the open numbers, the watches kept and the names;
+    /// to take a watch back walks the watches kept at its target's node.
     pub fn command(
         &mut self,
         by: u32,
@@ -84,8 +103,15 @@ impl Node {
         done
     }
 
-    /// What the node makes of an event of its endpoint. It stops with `Worn` exactly where a count
-    /// that it would raise can't grow. After a stop the node answers `OutOfMemory` for good.
+    /// What the node makes of an event of its endpoint: a connection that a peer opens or closes, a
+    /// payload on it, or the loss of the link with a peer; the close of its own endpoint changes nothing.
+    /// A payload that isn't read, or that its connection isn't for, changes nothing. It stops with `Worn`
+    /// exactly where a count that it would raise can't grow. After a stop the node answers `OutOfMemory`
+    /// for good. What has no spelling in an answer to another node is told as want of memory, as in
+    /// `command`.
+    ///
+    /// Cost: an event of a connection walks those that arrived; a failed link walks these, the pairs,
+    /// the open numbers and the watches kept.
     pub fn event(&mut self, event: Event) -> Result<Outcome, CommandError>
         ensures does { MatchResult result (λ acts. stopping (node_event self.old.state event) ≡ Ok (acts.items, self.new.state)) (λ e. Fails e (stopping (node_event self.old.state event))) }
         ensures err { IfErr result (λ e. Leaves self.old self.new e) }
@@ -131,7 +157,7 @@ impl Node {
         done
     }
 
-    /// The id of the process with this number.
+    /// The id of the process with this number, be it made or not.
     pub fn id(&self, counter: u32) -> Result<ProcessId, OutOfMemory>
         ensures { IfOk result (λ p. p ≡ process_id self.now.state counter) }
     {
@@ -145,14 +171,16 @@ impl Node {
         self.state.life(process)
     }
 
-    /// The node of the target of a process's monitor or link, where that is open under a reference.
+    /// The node of the target of a process's monitor or link. None exactly where none of that process is
+    /// open under the reference.
     pub fn watched(&self, by: u32, watch: &Ref) -> Result<Option<Address>, OutOfMemory>
         ensures { IfOk result (λ at. at ≡ node_watched self.now.state by watch.now) }
     {
         self.state.watched(by, watch)
     }
 
-    /// The node whose room a command needs: the one that it is directed to, if to any.
+    /// The node whose room a command needs: the one that it is directed to. None exactly where it sends
+    /// to none, or reconnects, or takes back a watch that it hasn't open.
     pub fn target_node(&self, by: u32, command: &Command) -> Result<Option<Address>, OutOfMemory>
         ensures { IfOk result (λ at. at ≡ target_node_of self.now.state by command.now) }
     {

@@ -52,7 +52,8 @@ fn fits(message: &NodeMessage) -> bool
     }
 }
 
-/// The one spelling of a message to a node. What has none is told as want of memory.
+/// The one spelling of a message to a node. What has none is told as want of memory, since the model
+/// spells it all the same, and no byte layout could be read again.
 pub(crate) fn spelled(alloc: Global, message: &NodeMessage) -> Result<Text, OutOfMemory>
     ensures { IfOk result (λ text. text ≡ message_of message.now) }
 {
