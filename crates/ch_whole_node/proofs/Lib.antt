@@ -1,0 +1,6 @@
+pub mod PairLists
+pub mod Lengths
+pub mod Losses
+pub mod Sorted
+pub mod Keyed
+pub mod Steps

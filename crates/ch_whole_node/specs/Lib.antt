@@ -1,0 +1,5 @@
+pub mod Kept
+pub mod Stages
+pub mod Calls
+pub mod Bindings
+pub mod Keys
