@@ -11,3 +11,4 @@ pub mod FramesRead
 pub mod Longer
 pub mod SocketTables
 pub mod NextItem
+pub mod KeyTables

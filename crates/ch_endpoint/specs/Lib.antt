@@ -14,3 +14,4 @@ pub mod Taking
 pub mod Unread
 pub mod Readers
 pub mod ReadySets
+pub mod LinkKeys

@@ -1,11 +1,13 @@
 //! The links of a host, by endpoint and peer.
+//!
+//! One link stands below; the host's calls stand above.
 
 ghost use Rattle.std.specs.Prelude.{◌≡◌, ◌<◌, ◌+◌, true, [], length, position, find, IfSome, IfOk, OnOk, OnErr, MatchOption, None, Some};
 ghost use Rattle.std.specs.Option.{option_copied};
 ghost use Rattle.ch_model.specs.HostSteps.{is_link, link_or_new, store_link};
 ghost use Rattle.ch_model.specs.HostWrites.{is_counted, counted_in};
 ghost use Rattle.ch_model.specs.HostCalls.{carries};
-ghost use Rattle.ch_endpoint.specs.Places.{IsPlaceOf};
+ghost use Rattle.ch_endpoint.specs.Places.{Apart, IsPlaceOf};
 ghost use Rattle.ch_endpoint.specs.Shuts.{peers_of};
 ghost use Rattle.ch_endpoint.specs.Waits.{giving, waiting, forgetting, closing};
 ghost use Rattle.ch_endpoint.specs.Arrivals.{may_create, creating, closing_id};
@@ -13,13 +15,19 @@ ghost use Rattle.ch_endpoint.specs.Arrivals.{may_create, creating, closing_id};
 use crate::link::{Link, Waiting};
 use ch_base::{Address, OutOfMemory};
 use ch_link::LinkState;
+use indexmap::IndexSet;
 use std::alloc::Global;
 use std::marker::Model;
 
-/// Links in order of first use. Contracts see the list of them.
+/// Links in order of first use. Contracts see the list of them. A link is looked up by its endpoint and peer without
+/// a walk; a connection is looked for among the links of its endpoint.
 #[derive(Drop)]
 pub(crate) struct Links {
     rows: Vec<Link>,
+    /// The host texts of the peers.
+    hosts: IndexSet<Vec<u8>>,
+    /// For each link, in order, its endpoint, the place of its peer's host text, and its peer's port and number.
+    keys: IndexSet<(u32, usize, u16, u32)>,
 }
 
 impl Model for Links {
@@ -29,10 +37,11 @@ impl Model for Links {
     ghost Value = { List LinkValue };
 
     ghost use Rattle.ch_endpoint.specs.Places.{Apart};
+    ghost use Rattle.ch_endpoint.specs.LinkKeys.{AreKeys};
 
     ghost view = { λ links. links.rows.items };
 
-    ghost invariant = { λ links. Apart links.rows.items };
+    ghost invariant = { λ links. Apart links.rows.items × AreKeys (λ text. text.items) links.hosts.keys links.keys.keys links.rows.items };
 }
 
 impl Links {
@@ -42,17 +51,23 @@ impl Links {
     {
         Links {
             rows: Vec::new(alloc),
+            hosts: IndexSet::new(alloc),
+            keys: IndexSet::new(alloc),
         }
     }
 
     fn place(&self, end: u32, peer: &Address) -> Option<usize>
+        ensures apart { Apart self.now }
         ensures place { result ≡ position (is_link end peer.now) self.now }
         ensures within { IfSome result (λ place. place < length self.now) }
     {
-        self.rows.iter().position(|link| link.is_for(end, peer))
+        match self.hosts.get_index_of(peer.host.as_slice()) {
+            None => None,
+            Some(host) => self.keys.get_index_of(&(end, host, peer.port, peer.id)),
+        }
     }
 
-    /// The link of an endpoint with a peer, where one was used. It walks the links.
+    /// The link of an endpoint with a peer, where one was used.
     pub(crate) fn get(&self, end: u32, peer: &Address) -> Option<&Link>
         ensures { option_copied result ≡ find (is_link end peer.now) self.now }
     {
@@ -68,12 +83,26 @@ impl Links {
     {
         match self.place(end, peer) {
             Some(place) => Ok(place),
-            None => {
-                let place = self.rows.len();
-                let peer = peer.copy()?;
-                self.rows
-                    .push(Link::new(*self.rows.allocator(), end, peer))?;
-                Ok(place)
+            None => self.add(end, peer),
+        }
+    }
+
+    /// The place of a link that wasn't used before, which comes last.
+    fn add(&mut self, end: u32, peer: &Address) -> Result<usize, OutOfMemory>
+        requires { position (is_link end peer.now) self.old ≡ None }
+        ensures { IfOk result (λ place. IsPlaceOf end peer.now self.old self.new place) }
+    {
+        let alloc = *self.rows.allocator();
+        let place = self.rows.len();
+        let link = Link::new(alloc, end, peer.copy()?);
+        let text = Vec::from_slice(alloc, peer.host.as_slice())?;
+        let (host, _) = self.hosts.insert_full(text)?;
+        self.rows.push(link)?;
+        match self.keys.insert((end, host, peer.port, peer.id)) {
+            Ok(_) => Ok(place),
+            Err(_) => {
+                self.rows.truncate(place);
+                Err(OutOfMemory)
             }
         }
     }

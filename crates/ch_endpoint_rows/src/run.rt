@@ -68,7 +68,7 @@ fn a_payload_comes_byte_by_byte(rt: HostRuntime) -> Result<(), Fail> {
 
     let bytes = written(alloc, flushed.as_slice())?;
     assert_eq!(rt; bytes.len(), 65_552);
-    for byte in &bytes[..65_551] {
+    for byte in bytes.iter().take(65_551) {
         feed(alloc, &mut two, 1, &[*byte])?;
     }
     assert_eq!(rt; next_of(alloc, &mut two)?.len(), 2);

@@ -17,5 +17,5 @@ returns-in-Some c =
     let found : find (carries c.args.end c.args.conn) links ≡ Some x = found_there (carries c.args.end c.args.conn) x links c.in-Some.place (sym c.place_of.ensures.place ∙ c.in-Some.is) ∙ ap Some (sym there) in
     let peer : c.behind-self.inside.peer ≡ x.peer = ap (λ (l : Link). l.peer) c.behind-self.view_is in
     found
-    ∙ ap Some (sym (carrier_with c.args.end c.args.conn x links (subst Apart c.self.view_is c.self.invariant) found))
+    ∙ ap Some (sym (carrier_with c.args.end c.args.conn x links (subst Apart c.self.view_is c.self.invariant.0) found))
     ∙ ap (λ p. Some (link_or_new c.args.end p (find (is_link c.args.end p) links))) (sym peer)

@@ -1,13 +1,14 @@
 use Rattle.std.proofs.Common.{refl}
 use Rattle.ch_endpoint.specs.Waits.{giving}
 use Rattle.ch_endpoint.proofs.Tables.{changed, changed_apart}
+use Rattle.ch_endpoint.proofs.KeyTables.{keys_changed}
 use Rattle.ch_endpoint.proofs.links.Links.give.Goals as goal
 
 pub returns-clause-ok : goal.returns-clause-ok
 returns-clause-ok c = changed (giving c.args.conn) (λ l. (refl, refl)) c.args.end c.args.peer.now _ _ _ _ c.in_ok-place.ensures c.self.view_is _ _ c.index_mut.ensures.value c.in_ok-id.ensures.ok
 
 pub invariant_of-self : goal.invariant_of-self
-invariant_of-self c = changed_apart (λ l. l) (λ l. (refl, refl)) c.args.end c.args.peer.now _ _ _ _ c.in_ok-place.ensures c.self.view_is _ _ c.index_mut.ensures.value c.in_err-id.ensures.err
+invariant_of-self c = (changed_apart (λ l. l) (λ l. (refl, refl)) c.args.end c.args.peer.now _ _ _ _ c.in_ok-place.ensures c.self.view_is _ _ c.index_mut.ensures.value c.in_err-id.ensures.err, keys_changed _ _ (λ l. l) (λ l. (refl, refl)) _ _ _ _ _ c.index_mut.ensures.value c.in_err-id.ensures.err c.self.invariant.1)
 
 pub invariant_of-self-2 : goal.invariant_of-self-2
-invariant_of-self-2 c = changed_apart (giving c.args.conn) (λ l. (refl, refl)) c.args.end c.args.peer.now _ _ _ _ c.in_ok-place.ensures c.self.view_is _ _ c.index_mut.ensures.value c.in_ok-id.ensures.ok
+invariant_of-self-2 c = (changed_apart (giving c.args.conn) (λ l. (refl, refl)) c.args.end c.args.peer.now _ _ _ _ c.in_ok-place.ensures c.self.view_is _ _ c.index_mut.ensures.value c.in_ok-id.ensures.ok, keys_changed _ _ (giving c.args.conn) (λ l. (refl, refl)) _ _ _ _ _ c.index_mut.ensures.value c.in_ok-id.ensures.ok c.self.invariant.1)
