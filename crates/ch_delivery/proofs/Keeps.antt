@@ -1,0 +1,329 @@
+-- The invariant, which each move keeps.
+use Rattle.std.proofs.Common.{◌≡◌, ◌<◌, ◌≤◌, ℕ, zero, suc, nat_eq, Bool, true, false, cond, not, ◌&&◌, ◌||◌, List, [], ◌∷◌, ◌++◌, Option, refl, ap, sym, ◌∙◌, subst, arith}
+use Rattle.std.proofs.lemmas.Bool.Decides.{nat_tests}
+use Rattle.ch_delivery.specs.Passage.{Mark, Unopened, Opened, Broken, Ended, Item, Created, Message, Closed, Binding, Unknown, Void, Bound, Entry, Said, Again, Got, Broke, Stood, Passage, start, is_there, is_some, is_bound, is_known}
+use Rattle.ch_delivery.specs.Moves.{Move, Say, Reconnect, Finish, Rise, Break, Cut, Come, Fall, Read, Stand, put, noted, marked, onto, written, write, say, reconnect, finish, mark_lost, epoch_lost, index_lost, broken, bind, bound_to, got, handle, read, kept_bound, after, Allowed, run, AllAllowed}
+use Rattle.ch_delivery.specs.Log.{gots, saids, meant, has_broken, stood, LawfulGot, Lawful}
+use Rattle.ch_delivery.specs.Invariant.{IsReached}
+use Rattle.ch_delivery.proofs.Ear.{cap}
+use Rattle.ch_delivery.proofs.Known.{in_order}
+use Rattle.ch_delivery.proofs.Links.{by_test, same_number, self_number, put_here, put_there}
+use Rattle.ch_delivery.proofs.Pairs.{Ordered, Ahead, say_pair, reconnect_pair, finish_pair, start_pair}
+use Rattle.ch_delivery.proofs.Sockets.{next_before, read_pair, cut_pair, fall_pair, break_pair, stand_pair, rise_pair, come_pair}
+use Rattle.ch_delivery.proofs.Counts.{Counts, CountsOf, said_counts, again_counts, finish_counts, got_counts, stood_counts, broke_counts, next_mark, meant_next, Sent, AllSent, sent_append, all_more}
+
+-- all that is on the way was said before its epoch broke
+pub record Sents (l : List Entry) (flight : ℕ → List Item) (waits : List Item) : Type 0 where
+  pub flown : (i : ℕ) → AllSent l (flight i)
+  pub held : AllSent l waits
+
+-- a connection leads to its target only while that is there
+abbrev pub Lively : (ℕ → Bool) → (ℕ → Option ℕ) → (ℕ → ℕ → Binding) → Type 0
+Lively named stands bound = (c e : ℕ) → bound c e ≡ Bound → is_there (named c) (stands c) ≡ true
+
+-- what is so of a passage besides the order of each pair
+pub record Account (p : Passage) : Type 0 where
+  pub counts : CountsOf p
+  pub sents : Sents p.log p.flight p.waits
+  pub ahead : Ahead p
+  pub lively : Lively p.named p.stands p.bound
+  pub who : (c : ℕ) → p.stands c ≡ stood c p.log
+  pub lawful : Lawful p.named p.log
+
+-- the invariant
+pub record Inv (p : Passage) : Type 0 where
+  pub pairs : (c : ℕ) → Ordered c p
+  pub account : Account p
+
+more_sents : (x : Entry) (l : List Entry) (flight : ℕ → List Item) (waits : List Item) → Sents l flight waits → Sents (x ∷ l) flight waits
+more_sents x l flight waits s = record { flown = λ i. all_more x l (flight i) (s.flown i); held = all_more x l waits s.held }
+
+put_sent : (l : List Entry) (i j : ℕ) (w : List Item) (flight : ℕ → List Item) → AllSent l w → ((j : ℕ) → AllSent l (flight j)) → AllSent l (put i w flight j)
+put_sent l i j w flight a s = by_cond (nat_eq j i) where
+  by_cond : (x : Bool) → AllSent l (cond x w (flight j))
+  by_cond true = a
+  by_cond false = s j
+
+onto_sent : (l : List Entry) (b : Bool) (w items : List Item) → AllSent l w → AllSent l items → AllSent l (onto b w items)
+onto_sent l true w items a s = a
+onto_sent l false w items a s = sent_append l w items a s
+
+-- ---- what is written
+
+written_account : (b : Bool) (items : List Item) (p : Passage) → AllSent p.log items → Account p → Account (written b items p)
+written_account false items p a s = record {
+  counts = s.counts;
+  sents = record { flown = s.sents.flown; held = sent_append p.log p.waits items s.sents.held a };
+  ahead = s.ahead;
+  lively = s.lively;
+  who = s.who;
+  lawful = s.lawful;
+}
+written_account true items p a s = record {
+  counts = s.counts;
+  sents = record {
+    flown = λ j. put_sent p.log p.on j (onto (p.cut p.on) (p.flight p.on) items) p.flight (onto_sent p.log (p.cut p.on) (p.flight p.on) items (s.sents.flown p.on) a) s.sents.flown;
+    held = s.sents.held;
+  };
+  ahead = λ i h. put_there p.on i (onto (p.cut p.on) (p.flight p.on) items) p.flight (apart_back p.on i h) ∙ s.ahead i h;
+  lively = s.lively;
+  who = s.who;
+  lawful = s.lawful;
+} where
+  apart_back : (i j : ℕ) → i < j → nat_eq j i ≡ false
+  apart_back i j h = grind (arith, nat_tests)
+
+module _ (d : ℕ) (p : Passage) (s : Account p) where
+  said_account : (m : Mark) → (p.mark d ≡ Ended → ⊥) → next_mark (p.mark d) ≡ m → Account (noted (Said d (p.epoch d) (p.index d)) (marked d m (p.epoch d) (suc (p.index d)) p))
+  said_account m live is = record {
+    counts = said_counts p d s.counts live m is;
+    sents = more_sents (Said d (p.epoch d) (p.index d)) p.log p.flight p.waits s.sents;
+    ahead = s.ahead;
+    lively = s.lively;
+    who = s.who;
+    lawful = ((s.counts d).epoch live, (s.counts d).index, s.lawful);
+  }
+
+  again_account : (p.mark d ≡ Ended → ⊥) → Account (noted (Again d (suc (p.epoch d))) (marked d Unopened (suc (p.epoch d)) 0 p))
+  again_account live = record {
+    counts = again_counts p d s.counts live (suc (p.epoch d));
+    sents = more_sents (Again d (suc (p.epoch d))) p.log p.flight p.waits s.sents;
+    ahead = s.ahead;
+    lively = s.lively;
+    who = s.who;
+    lawful = (ap suc ((s.counts d).epoch live), s.lawful);
+  }
+
+  finish_account : Account (marked d Ended (p.epoch d) (p.index d) p)
+  finish_account = record { counts = finish_counts p d s.counts; sents = s.sents; ahead = s.ahead; lively = s.lively; who = s.who; lawful = s.lawful }
+
+-- a pair with mark m isn't one with mark n
+other : (m n k : Mark) → k ≡ m → (m ≡ n → ⊥) → k ≡ n → ⊥
+other m n k is not h = not (sym is ∙ h)
+
+module _ (d : ℕ) (p : Passage) (s : Account p) where
+  sound : (p.mark d ≡ Broken → ⊥) → (p.mark d ≡ Ended → ⊥) → p.index d < meant d (p.epoch d) (Said d (p.epoch d) (p.index d) ∷ p.log)
+  sound h g = let e = meant_next (p.named d) d (p.mark d) (p.epoch d) (p.index d) p.log h g (s.counts d) in omega arith
+
+  say_account : (m : Mark) → p.mark d ≡ m → Account (say m d p)
+  say_account Unopened is = written_account p.up (Created d (p.epoch d) ∷ Message d (p.epoch d) (p.index d) ∷ []) (noted (Said d (p.epoch d) (p.index d)) (marked d Opened (p.epoch d) (suc (p.index d)) p))
+      (tt, (sound (other Unopened Broken (p.mark d) is never) (other Unopened Ended (p.mark d) is live), tt)) (said_account d p s Opened (other Unopened Ended (p.mark d) is live) (ap next_mark is)) where
+        never : Unopened ≡ Broken → ⊥
+        never h = cc
+
+        live : Unopened ≡ Ended → ⊥
+        live h = cc
+  say_account Opened is = written_account p.up (Message d (p.epoch d) (p.index d) ∷ []) (noted (Said d (p.epoch d) (p.index d)) (marked d Opened (p.epoch d) (suc (p.index d)) p))
+      (sound (other Opened Broken (p.mark d) is never) (other Opened Ended (p.mark d) is live), tt) (said_account d p s Opened (other Opened Ended (p.mark d) is live) (ap next_mark is)) where
+        never : Opened ≡ Broken → ⊥
+        never h = cc
+
+        live : Opened ≡ Ended → ⊥
+        live h = cc
+  say_account Broken is = said_account d p s Broken (other Broken Ended (p.mark d) is live) (ap next_mark is) where
+    live : Broken ≡ Ended → ⊥
+    live h = cc
+  say_account Ended is = s
+
+  reconnect_account : (m : Mark) → p.mark d ≡ m → Account (reconnect m d p)
+  reconnect_account Unopened is = again_account d p s (other Unopened Ended (p.mark d) is live) where
+    live : Unopened ≡ Ended → ⊥
+    live h = cc
+  reconnect_account Opened is = written_account p.up (Closed d (p.epoch d) ∷ []) (noted (Again d (suc (p.epoch d))) (marked d Unopened (suc (p.epoch d)) 0 p)) (tt, tt)
+      (again_account d p s (other Opened Ended (p.mark d) is live)) where
+        live : Opened ≡ Ended → ⊥
+        live h = cc
+  reconnect_account Broken is = again_account d p s (other Broken Ended (p.mark d) is live) where
+    live : Broken ≡ Ended → ⊥
+    live h = cc
+  reconnect_account Ended is = s
+
+  end_account : (m : Mark) → Account (finish m d p)
+  end_account Opened = written_account p.up (Closed d (p.epoch d) ∷ []) (marked d Ended (p.epoch d) (p.index d) p) (tt, tt) (finish_account d p s)
+  end_account Unopened = finish_account d p s
+  end_account Broken = finish_account d p s
+  end_account Ended = finish_account d p s
+
+-- ---- what is read
+
+nothing : (item : Item) (w : List Item) → [] ≡ (item ∷ w) → ⊥
+nothing item w h = cc
+
+module _ (p : Passage) (v : Inv p) (item : Item) (w : List Item) (is : p.flight p.at ≡ item ∷ w) where
+  first_sent : Sent p.log item × AllSent p.log w
+  first_sent = subst (AllSent p.log) is (v.account.sents.flown p.at)
+
+  rest_account : Account (record p { flight = put p.at w p.flight })
+  rest_account = record {
+    counts = v.account.counts;
+    sents = record { flown = λ j. put_sent p.log p.at j w p.flight first_sent.1 v.account.sents.flown; held = v.account.sents.held };
+    ahead = λ i h. by_cond (nat_eq i p.at) i h (λ x. same_number p.at i x);
+    lively = v.account.lively;
+    who = v.account.who;
+    lawful = v.account.lawful;
+  } where
+    by_cond : (x : Bool) (i : ℕ) → p.on < i → (x ≡ true → p.at ≡ i) → cond x w (p.flight i) ≡ []
+    by_cond true i h e = absurd (nothing item w (sym (v.account.ahead i h) ∙ ap p.flight (sym (e refl)) ∙ is))
+    by_cond false i h e = v.account.ahead i h
+
+bind_lively : (named : ℕ → Bool) (stands : ℕ → Option ℕ) (bound : ℕ → ℕ → Binding) (d f : ℕ) (b : Binding) → (b ≡ Bound → is_there (named d) (stands d) ≡ true)
+    → Lively named stands bound → Lively named stands (λ c e. cond (nat_eq c d && nat_eq e f) b (bound c e))
+bind_lively named stands bound d f b new s c e h = by_cond (nat_eq c d && nat_eq e f) (same_pair c d e f) h where
+  same_pair : (c d e f : ℕ) → (nat_eq c d && nat_eq e f) ≡ true → d ≡ c
+  same_pair c d e f x = grind (arith, nat_tests)
+
+  by_cond : (x : Bool) → (x ≡ true → d ≡ c) → cond x b (bound c e) ≡ Bound → is_there (named c) (stands c) ≡ true
+  by_cond true own h = subst (λ (z : ℕ). is_there (named z) (stands z) ≡ true) (own refl) (new h)
+  by_cond false own h = s c e h
+
+module _ (p : Passage) (v : Inv p) (w : List Item) where
+  got_account : (d e k : ℕ) → p.flight p.at ≡ Message d e k ∷ w → (b : Binding) → p.bound d e ≡ b → Account (got b d e k (record p { flight = put p.at w p.flight }))
+  got_account d e k is Unknown h = rest_account p v (Message d e k) w is
+  got_account d e k is Void h = rest_account p v (Message d e k) w is
+  got_account d e k is Bound h = record {
+    counts = λ c. got_counts (p.named c) c d e k (p.stands d) (p.mark c) (p.epoch c) (p.index c) p.log (v.account.counts c);
+    sents = more_sents (Got d e k (p.stands d)) p.log (put p.at w p.flight) p.waits (rest_account p v (Message d e k) w is).sents;
+    ahead = (rest_account p v (Message d e k) w is).ahead;
+    lively = v.account.lively;
+    who = v.account.who;
+    lawful = (record { said = (first_sent p v (Message d e k) w is).0; order = next.0; no_later = next.1; receiver = v.account.who d; living = v.account.lively d e h }, v.account.lawful);
+  } where
+    next : (k ≡ gots d e p.log) × ((y : ℕ) → e < y → gots d y p.log ≡ 0)
+    next = (in_order d e k (λ y. gots d y p.log) (p.bound d) (v.pairs d).ear (cap (p.mark d) (p.epoch d)) (next_before d p (v.pairs d) (Message d e k) w is) (v.pairs d).known).1 h
+
+  handle_account : (item : Item) → p.flight p.at ≡ item ∷ w → Account (handle item (record p { flight = put p.at w p.flight }))
+  handle_account (Created d e) is = let s = rest_account p v (Created d e) w is in record {
+    counts = s.counts;
+    sents = s.sents;
+    ahead = s.ahead;
+    lively = bind_lively p.named p.stands p.bound d e (bound_to (is_there (p.named d) (p.stands d))) (to_bound (is_there (p.named d) (p.stands d))) s.lively;
+    who = s.who;
+    lawful = s.lawful;
+  } where
+    to_bound : (x : Bool) → bound_to x ≡ Bound → x ≡ true
+    to_bound true h = refl
+    to_bound false h = absurd (clash h) where
+      clash : Void ≡ Bound → ⊥
+      clash h = cc
+  handle_account (Closed d e) is = let s = rest_account p v (Closed d e) w is in record {
+    counts = s.counts;
+    sents = s.sents;
+    ahead = s.ahead;
+    lively = bind_lively p.named p.stands p.bound d e Unknown (λ h. absurd (clash h)) s.lively;
+    who = s.who;
+    lawful = s.lawful;
+  } where
+    clash : Unknown ≡ Bound → ⊥
+    clash h = cc
+  handle_account (Message d e k) is = got_account d e k is (p.bound d e) refl
+
+read_account : (p : Passage) (w : List Item) → p.flight p.at ≡ w → Inv p → Account (read w p)
+read_account p [] is v = v.account
+read_account p (item ∷ w) is v = handle_account p v w item is
+
+-- ---- the moves
+
+unknown_lively : (named : ℕ → Bool) (stands : ℕ → Option ℕ) → Lively named stands (λ c e. Unknown)
+unknown_lively named stands c e h = absurd (clash h) where
+  clash : Unknown ≡ Bound → ⊥
+  clash h = cc
+
+cut_account : (i : ℕ) (p : Passage) → Account p → Account (record p { cut = put i true p.cut; flight = put i [] p.flight })
+cut_account i p s = record {
+  counts = s.counts;
+  sents = record { flown = λ j. put_sent p.log i j [] p.flight tt s.sents.flown; held = s.sents.held };
+  ahead = λ j h. gone (nat_eq j i) j h;
+  lively = s.lively;
+  who = s.who;
+  lawful = s.lawful;
+} where
+  gone : (x : Bool) (j : ℕ) → p.on < j → cond x [] (p.flight j) ≡ []
+  gone true j h = refl
+  gone false j h = s.ahead j h
+
+account_kept : (m : Move) (p : Passage) → Allowed m p → Inv p → Account (after m p)
+account_kept (Say d) p is v = say_account d p v.account (p.mark d) refl
+account_kept (Reconnect d) p is v = reconnect_account d p v.account (p.mark d) refl
+account_kept (Finish d) p is v = end_account d p v.account (p.mark d)
+account_kept (Rise i) p is v = let s = v.account in record {
+  counts = s.counts;
+  sents = record { flown = λ j. put_sent p.log i j (onto (p.cut i) [] p.waits) p.flight (onto_sent p.log (p.cut i) [] p.waits tt s.sents.held) s.sents.flown; held = tt };
+  ahead = λ j h. put_there i j (onto (p.cut i) [] p.waits) p.flight (apart_back i j h) ∙ s.ahead j (omega arith);
+  lively = s.lively;
+  who = s.who;
+  lawful = s.lawful;
+} where
+  apart_back : (i j : ℕ) → i < j → nat_eq j i ≡ false
+  apart_back i j h = grind (arith, nat_tests)
+account_kept Break p is v = let s = v.account in record {
+  counts = λ c. broke_counts (p.named c) c (p.mark c) (p.epoch c) (p.index c) p.log (s.counts c);
+  sents = record { flown = λ i. all_more Broke p.log (p.flight i) (s.sents.flown i); held = tt };
+  ahead = s.ahead;
+  lively = s.lively;
+  who = s.who;
+  lawful = s.lawful;
+}
+account_kept (Cut i) p is v = cut_account i p v.account
+account_kept (Come i) p is v = let s = v.account in record { counts = s.counts; sents = s.sents; ahead = s.ahead; lively = unknown_lively p.named p.stands; who = s.who; lawful = s.lawful }
+account_kept Fall p is v = let s = cut_account p.at p v.account in record { counts = s.counts; sents = s.sents; ahead = s.ahead; lively = unknown_lively p.named p.stands; who = s.who; lawful = s.lawful }
+account_kept Read p is v = read_account p (p.flight p.at) refl v
+account_kept (Stand f) p is v = let s = v.account in record {
+  counts = λ c. stood_counts (p.named c) c f (p.mark c) (p.epoch c) (p.index c) p.log (s.counts c);
+  sents = more_sents (Stood f) p.log p.flight p.waits s.sents;
+  ahead = s.ahead;
+  lively = λ c e h. lives (is_there (p.named c) (f c)) (p.bound c e) h;
+  who = λ c. refl;
+  lawful = s.lawful;
+} where
+  lives : (x : Bool) (b : Binding) → kept_bound x b ≡ Bound → x ≡ true
+  lives true b h = refl
+  lives false Unknown h = absurd (clash h) where
+    clash : Unknown ≡ Bound → ⊥
+    clash h = cc
+  lives false Void h = absurd (clash h) where
+    clash : Void ≡ Bound → ⊥
+    clash h = cc
+  lives false Bound h = absurd (clash h) where
+    clash : Void ≡ Bound → ⊥
+    clash h = cc
+
+pair_kept : (m : Move) (p : Passage) → Allowed m p → Inv p → (c : ℕ) → Ordered c (after m p)
+pair_kept (Say d) p is v c = say_pair c d p (p.mark d) refl (λ h. (v.account.counts d).fresh h) (v.pairs c)
+pair_kept (Reconnect d) p is v c = reconnect_pair c d p (p.mark d) refl (v.pairs c)
+pair_kept (Finish d) p is v c = finish_pair c d p (p.mark d) refl (v.pairs c)
+pair_kept (Rise i) p is v c = rise_pair c p (v.pairs c) v.account.ahead i is.0 is.1
+pair_kept Break p is v c = break_pair c p (v.pairs c)
+pair_kept (Cut i) p is v c = cut_pair c p (v.pairs c) i
+pair_kept (Come i) p is v c = come_pair c p (v.pairs c) v.account.ahead i is
+pair_kept Fall p is v c = fall_pair c p (v.pairs c)
+pair_kept Read p is v c = read_pair c p (v.pairs c) (p.flight p.at) refl
+pair_kept (Stand f) p is v c = stand_pair c p (v.pairs c) f
+
+pub keeps : (m : Move) (p : Passage) → Allowed m p → Inv p → Inv (after m p)
+keeps m p is v = record { pairs = pair_kept m p is v; account = account_kept m p is v }
+
+pub inv_start : (named : ℕ → Bool) → Inv (start named)
+inv_start named = record {
+  pairs = start_pair named;
+  account = record {
+    counts = λ c. record { epoch = λ h. refl; index = refl; later = λ f h. refl; fresh = λ h. refl; some = λ h. absurd (never h); whole = λ h. absurd (never h); goes_on = λ n h. not_broken h };
+    sents = record { flown = λ i. tt; held = tt };
+    ahead = λ i h. refl;
+    lively = unknown_lively named (start named).stands;
+    who = λ c. refl;
+    lawful = tt;
+  };
+} where
+  never : Unopened ≡ Opened → ⊥
+  never h = cc
+
+  not_broken : Unopened ≡ Broken → ⊥
+  not_broken h = cc
+
+pub inv_run : (ms : List Move) (p : Passage) → AllAllowed ms p → Inv p → Inv (run ms p)
+inv_run [] p are v = v
+inv_run (m ∷ ms) p (is, are) v = inv_run ms (after m p) are (keeps m p is v)
+
+-- whatever is reached
+pub inv_reached : (p : Passage) → IsReached p → Inv p
+inv_reached p r = subst Inv r.3 (inv_run r.1 (start r.0) r.2 (inv_start r.0))
