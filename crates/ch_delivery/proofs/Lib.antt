@@ -5,3 +5,8 @@ pub mod Pairs
 pub mod Sockets
 pub mod Counts
 pub mod Keeps
+pub mod Drains
+pub mod Stood
+pub mod Gets
+pub mod Owed
+pub mod Delivers
