@@ -1,7 +1,7 @@
 -- What the log says of a pair's epoch and index, and that what is on the way was said.
 use Rattle.std.proofs.Common.{◌≡◌, ◌<◌, ◌≤◌, ℕ, zero, suc, nat_eq, Bool, true, false, cond, not, ◌&&◌, ◌||◌, List, [], ◌∷◌, ◌++◌, Option, refl, ap, sym, ◌∙◌, subst, arith}
 use Rattle.std.proofs.lemmas.Bool.Decides.{nat_tests}
-use Rattle.ch_delivery.specs.Passage.{Mark, Unopened, Opened, Broken, Ended, Item, Created, Message, Closed, Binding, Unknown, Void, Bound, Entry, Said, Again, Got, Broke, Stood, Passage, start, is_there, is_some, is_bound, is_known}
+use Rattle.ch_delivery.specs.Passage.{Mark, Unopened, Opened, Broken, Ended, Item, Created, Message, Closed, Binding, Unknown, Void, Bound, Entry, Said, Again, Got, Rose, Broke, Came, Fell, Stood, Passage, start, is_there, is_some, is_bound, is_known}
 use Rattle.ch_delivery.specs.Moves.{put, mark_lost, epoch_lost, index_lost}
 use Rattle.ch_delivery.specs.Log.{plus, same, gots, saids, epoch_of, has_broken, meant}
 use Rattle.ch_delivery.proofs.Links.{same_number, self_number}
@@ -30,6 +30,9 @@ unbroken c e (Said d f k ∷ l) h = unbroken c e l (plus_none (same c e d f) (sa
 unbroken c e (Got d f k r ∷ l) h = unbroken c e l h
 unbroken c e (Again d f ∷ l) h = unbroken c e l h
 unbroken c e (Stood f ∷ l) h = unbroken c e l h
+unbroken c e (Rose i ∷ l) h = unbroken c e l h
+unbroken c e (Came i ∷ l) h = unbroken c e l h
+unbroken c e (Fell ∷ l) h = unbroken c e l h
 
 -- what was said before the break is no more than what was said
 pub meant_less : (c e : ℕ) (l : List Entry) → meant c e l ≤ saids c e l
@@ -38,6 +41,9 @@ meant_less c e (Broke ∷ l) = meant_less c e l
 meant_less c e (Got d f k r ∷ l) = meant_less c e l
 meant_less c e (Again d f ∷ l) = meant_less c e l
 meant_less c e (Stood f ∷ l) = meant_less c e l
+meant_less c e (Rose i ∷ l) = meant_less c e l
+meant_less c e (Came i ∷ l) = meant_less c e l
+meant_less c e (Fell ∷ l) = meant_less c e l
 meant_less c e (Said d f k ∷ l) = here (same c e d f) (has_broken c e l) (meant c e l) (saids c e l) (meant_less c e l) where
   here : (a b : Bool) (m n : ℕ) → m ≤ n → plus (a && not b) m ≤ plus a n
   here true true m n h = omega arith
@@ -169,8 +175,23 @@ finish_own name d m e k l s = record {
 pub got_counts : (name : Bool) (c d f n : ℕ) (r : Option ℕ) (m : Mark) (e k : ℕ) (l : List Entry) → Counts name c m e k l → Counts name c m e k (Got d f n r ∷ l)
 got_counts name c d f n r m e k l s = record { epoch = s.epoch; index = s.index; later = s.later; fresh = s.fresh; some = s.some; whole = s.whole; goes_on = s.goes_on }
 
-pub stood_counts : (name : Bool) (c : ℕ) (f : ℕ → Option ℕ) (m : Mark) (e k : ℕ) (l : List Entry) → Counts name c m e k l → Counts name c m e k (Stood f ∷ l)
-stood_counts name c f m e k l s = record { epoch = s.epoch; index = s.index; later = s.later; fresh = s.fresh; some = s.some; whole = s.whole; goes_on = s.goes_on }
+-- an entry that says nothing of the sending processes
+abbrev pub IsApart : Entry → Type 0
+IsApart (Rose i) = Unit {0}
+IsApart (Came i) = Unit {0}
+IsApart Fell = Unit {0}
+IsApart (Stood f) = Unit {0}
+IsApart x = ⊥
+
+pub apart_counts : (name : Bool) (c : ℕ) (x : Entry) (m : Mark) (e k : ℕ) (l : List Entry) → IsApart x → Counts name c m e k l → Counts name c m e k (x ∷ l)
+apart_counts name c (Rose i) m e k l q s = record { epoch = s.epoch; index = s.index; later = s.later; fresh = s.fresh; some = s.some; whole = s.whole; goes_on = s.goes_on }
+apart_counts name c (Came i) m e k l q s = record { epoch = s.epoch; index = s.index; later = s.later; fresh = s.fresh; some = s.some; whole = s.whole; goes_on = s.goes_on }
+apart_counts name c Fell m e k l q s = record { epoch = s.epoch; index = s.index; later = s.later; fresh = s.fresh; some = s.some; whole = s.whole; goes_on = s.goes_on }
+apart_counts name c (Stood f) m e k l q s = record { epoch = s.epoch; index = s.index; later = s.later; fresh = s.fresh; some = s.some; whole = s.whole; goes_on = s.goes_on }
+apart_counts name c (Said d f n) m e k l q s = absurd q
+apart_counts name c (Again d f) m e k l q s = absurd q
+apart_counts name c (Got d f n r) m e k l q s = absurd q
+apart_counts name c Broke m e k l q s = absurd q
 
 -- the link breaks
 none_said : (name : Bool) (e n : ℕ) → n ≡ 0 → plus (name && not (nat_eq n 0)) e ≡ e
@@ -306,6 +327,9 @@ meant_more c e Broke l = omega arith
 meant_more c e (Got d f k r) l = omega arith
 meant_more c e (Again d f) l = omega arith
 meant_more c e (Stood f) l = omega arith
+meant_more c e (Rose i) l = omega arith
+meant_more c e (Came i) l = omega arith
+meant_more c e (Fell) l = omega arith
 meant_more c e (Said d f k) l = by_hit (same c e d f && not (has_broken c e l)) where
   by_hit : (b : Bool) → meant c e l ≤ plus b (meant c e l)
   by_hit true = omega arith

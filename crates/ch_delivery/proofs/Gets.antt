@@ -1,7 +1,7 @@
 -- How many messages of one epoch a reader gets of a word of items, if the target is there.
 use Rattle.std.proofs.Common.{◌≡◌, ◌<◌, ◌≤◌, ℕ, zero, suc, ◌+◌, nat_eq, Bool, true, false, cond, not, ◌&&◌, ◌||◌, List, [], ◌∷◌, ◌++◌, Option, refl, ap, sym, ◌∙◌, subst, arith}
 use Rattle.std.proofs.lemmas.Bool.Decides.{nat_tests}
-use Rattle.ch_delivery.specs.Passage.{Mark, Unopened, Opened, Broken, Ended, Item, Created, Message, Closed, Binding, Unknown, Void, Bound, Entry, Said, Again, Got, Broke, Stood, Passage, start, is_there, is_some, is_bound, is_known}
+use Rattle.ch_delivery.specs.Passage.{Mark, Unopened, Opened, Broken, Ended, Item, Created, Message, Closed, Binding, Unknown, Void, Bound, Entry, Said, Again, Got, Rose, Broke, Came, Fell, Stood, Passage, start, is_there, is_some, is_bound, is_known}
 use Rattle.ch_delivery.specs.Log.{plus, same, gots, saids, meant, LawfulGot, Lawful}
 use Rattle.ch_delivery.proofs.Counts.{meant_less}
 
@@ -107,3 +107,6 @@ module _ (named : ℕ → Bool) (c e : ℕ) where
   gots_less (Got d f k r ∷ l) g = got_here d f k r l (gots_less l g.1) g.0
   gots_less (Broke ∷ l) g = gots_less l g
   gots_less (Stood f ∷ l) g = gots_less l g
+  gots_less (Rose i ∷ l) g = gots_less l g
+  gots_less (Came i ∷ l) g = gots_less l g
+  gots_less (Fell ∷ l) g = gots_less l g

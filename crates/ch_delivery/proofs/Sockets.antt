@@ -2,7 +2,7 @@
 use Rattle.std.proofs.Common.{◌≡◌, ◌<◌, ◌≤◌, ℕ, zero, suc, nat_eq, Bool, true, false, cond, not, ◌&&◌, ◌||◌, List, [], ◌∷◌, ◌++◌, Option, refl, ap, sym, ◌∙◌, subst, arith}
 use Rattle.std.proofs.lemmas.Bool.Decides.{nat_tests}
 use lib.Dec.{leb}
-use Rattle.ch_delivery.specs.Passage.{Mark, Unopened, Opened, Broken, Ended, Item, Created, Message, Closed, Binding, Unknown, Void, Bound, Entry, Said, Again, Got, Broke, Stood, Passage, start, is_there, is_some, is_bound, is_known}
+use Rattle.ch_delivery.specs.Passage.{Mark, Unopened, Opened, Broken, Ended, Item, Created, Message, Closed, Binding, Unknown, Void, Bound, Entry, Said, Again, Got, Rose, Broke, Came, Fell, Stood, Passage, start, is_there, is_some, is_bound, is_known}
 use Rattle.ch_delivery.specs.Moves.{Move, Say, Reconnect, Finish, Rise, Break, Cut, Come, Fall, Read, Stand, put, noted, marked, onto, written, write, say, reconnect, finish, mark_lost, epoch_lost, index_lost, broken, bind, bound_to, got, handle, read, kept_bound, after, Allowed, run, AllAllowed}
 use Rattle.ch_delivery.specs.Log.{plus, gots}
 use Rattle.ch_delivery.proofs.Ear.{Ear, Idle, In, Bad, Before, Le, hear, heard, heard_before, heard_mono, le_self, le_trans, quit, quit_before, tail, cap, tail_cap}

@@ -1,7 +1,7 @@
 -- A message whose index is below the count of those said before the break stands in the log.
 use Rattle.std.proofs.Common.{◌≡◌, ◌<◌, ◌≤◌, ℕ, zero, suc, nat_eq, Bool, true, false, cond, not, ◌&&◌, List, [], ◌∷◌, ◌++◌, refl, ap, sym, ◌∙◌, subst, arith}
 use Rattle.std.proofs.lemmas.Bool.Decides.{nat_tests}
-use Rattle.ch_delivery.specs.Passage.{Entry, Said, Again, Got, Broke, Stood}
+use Rattle.ch_delivery.specs.Passage.{Entry, Said, Again, Got, Rose, Broke, Came, Fell, Stood}
 use Rattle.ch_delivery.specs.Log.{plus, gots, saids, has_broken, meant, same, LawfulGot, Lawful, WasSaid, AllSaid}
 use Rattle.ch_delivery.proofs.Counts.{unmeant}
 use Rattle.ch_delivery.proofs.Links.{by_order}
@@ -16,6 +16,9 @@ all_meant c e (Broke ∷ l) h = unmeant c e l (none_of (saids c e l) h) ∙ sym 
 all_meant c e (Got d f k r ∷ l) h = all_meant c e l h
 all_meant c e (Again d f ∷ l) h = all_meant c e l h
 all_meant c e (Stood f ∷ l) h = all_meant c e l h
+all_meant c e (Rose i ∷ l) h = all_meant c e l h
+all_meant c e (Came i ∷ l) h = all_meant c e l h
+all_meant c e (Fell ∷ l) h = all_meant c e l h
 all_meant c e (Said d f k ∷ l) h = ap (λ (b : Bool). plus (same c e d f && not b) (meant c e l)) h ∙ hits (same c e d f) ∙ ap (plus (same c e d f)) (all_meant c e l h) where
   hits : (b : Bool) → plus (b && not false) (meant c e l) ≡ plus b (meant c e l)
   hits true = refl
@@ -47,6 +50,9 @@ stands named c e k (Broke ∷ l) g h = push c e k Broke l (stands named c e k l 
 stands named c e k (Got d f n r ∷ l) g h = push c e k (Got d f n r) l (stands named c e k l g.1 h)
 stands named c e k (Again d f ∷ l) g h = push c e k (Again d f) l (stands named c e k l g.1 h)
 stands named c e k (Stood f ∷ l) g h = push c e k (Stood f) l (stands named c e k l g h)
+stands named c e k (Rose i ∷ l) g h = push c e k (Rose i) l (stands named c e k l g h)
+stands named c e k (Came i ∷ l) g h = push c e k (Came i) l (stands named c e k l g h)
+stands named c e k (Fell ∷ l) g h = push c e k (Fell) l (stands named c e k l g h)
 stands named c e k (Said d f n ∷ l) g h = said_here c e d f k n l (same c e d f) (λ x. equal_pair c e d f x) (has_broken c e l) refl g.1 (λ x. stands named c e k l g.2 x) h
 
 pub all_said : (named : ℕ → Bool) (l : List Entry) → Lawful named l → AllSaid l
@@ -54,5 +60,8 @@ all_said named [] g = tt
 all_said named (Broke ∷ l) g = all_said named l g
 all_said named (Again d f ∷ l) g = all_said named l g.1
 all_said named (Stood f ∷ l) g = all_said named l g
+all_said named (Rose i ∷ l) g = all_said named l g
+all_said named (Came i ∷ l) g = all_said named l g
+all_said named (Fell ∷ l) g = all_said named l g
 all_said named (Said d f n ∷ l) g = all_said named l g.2
 all_said named (Got d f n r ∷ l) g = (stands named d f n l g.1 g.0.said, all_said named l g.1)

@@ -1,6 +1,6 @@
 -- When a log is lawful: each entry after those before it, which follow it in the list.
-use Rattle.std.specs.Prelude.{◌≡◌, ◌<◌, ℕ, suc, nat_eq, Bool, true, false, not, ◌&&◌, List, [], ◌∷◌, ◌++◌, Option, None}
-use Rattle.ch_delivery.specs.Passage.{Entry, Said, Again, Got, Broke, Stood, is_there}
+use Rattle.std.specs.Prelude.{◌≡◌, ◌<◌, ℕ, suc, nat_eq, Bool, true, false, not, ◌&&◌, ◌||◌, List, [], ◌∷◌, ◌++◌, Option, Some, None}
+use Rattle.ch_delivery.specs.Passage.{Entry, Said, Again, Got, Rose, Broke, Came, Fell, Stood, is_there}
 
 -- they are one pair, and one epoch of it
 abbrev pub same : ℕ → ℕ → ℕ → ℕ → Bool
@@ -49,14 +49,33 @@ stood c [] = None
 stood c (Stood f ∷ l) = f c
 stood c (x ∷ l) = stood c l
 
+-- the sending node came up on the socket
+abbrev pub has_risen : ℕ → List Entry → Bool
+has_risen i [] = false
+has_risen i (Rose j ∷ l) = nat_eq i j || has_risen i l
+has_risen i (x ∷ l) = has_risen i l
+
+-- the socket that the receiving node is up on
+abbrev pub up_at : List Entry → Option ℕ
+up_at [] = None
+up_at (Came i ∷ l) = Some i
+up_at (Fell ∷ l) = None
+up_at (x ∷ l) = up_at l
+
+-- the receiving node is up on a socket on which the sending node has come up
+abbrev pub hears : Option ℕ → List Entry → Bool
+hears None l = false
+hears (Some i) l = has_risen i l
+
 -- A message is got: it was said before its epoch broke; those of its epoch that were got are those before it; none of a
--- later epoch was got; and it is got by who stands for the target then, which is there.
+-- later epoch was got; it is got by who stands for the target then, which is there; and over a link that is up.
 pub record LawfulGot (name : Bool) (c e k : ℕ) (r : Option ℕ) (l : List Entry) : Type 0 where
   pub said : k < meant c e l
   pub order : k ≡ gots c e l
   pub no_later : (f : ℕ) → e < f → gots c f l ≡ 0
   pub receiver : r ≡ stood c l
   pub living : is_there name r ≡ true
+  pub over_link : hears (up_at l) l ≡ true
 
 -- Each message has its pair's epoch and the next index in it, each reconnect the next epoch, and each receipt is lawful.
 abbrev pub Lawful : (ℕ → Bool) → List Entry → Type 0

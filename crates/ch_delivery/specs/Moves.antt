@@ -1,6 +1,6 @@
 -- What may happen next, and what it leads to.
 use Rattle.std.specs.Prelude.{◌≡◌, ◌<◌, ℕ, suc, nat_eq, Bool, true, false, cond, ◌&&◌, List, [], ◌∷◌, ◌++◌, Option}
-use Rattle.ch_delivery.specs.Passage.{Mark, Unopened, Opened, Broken, Ended, Item, Created, Message, Closed, Binding, Unknown, Void, Bound, Entry, Said, Again, Got, Broke, Stood, Passage, is_there}
+use Rattle.ch_delivery.specs.Passage.{Mark, Unopened, Opened, Broken, Ended, Item, Created, Message, Closed, Binding, Unknown, Void, Bound, Entry, Said, Again, Got, Rose, Broke, Came, Fell, Stood, Passage, is_there}
 
 -- One event at one of the two nodes, or on the way.
 --   Say: the pair's process says a message. Reconnect: it reconnects the pair. Finish: it is over. Rise: the sending node
@@ -133,11 +133,11 @@ abbrev pub after : Move → Passage → Passage
 after (Say c) p = say (p.mark c) c p
 after (Reconnect c) p = reconnect (p.mark c) c p
 after (Finish c) p = finish (p.mark c) c p
-after (Rise i) p = record p { up = true; on = i; flight = put i (onto (p.cut i) [] p.waits) p.flight; waits = [] }
+after (Rise i) p = noted (Rose i) (record p { up = true; on = i; flight = put i (onto (p.cut i) [] p.waits) p.flight; waits = [] })
 after Break p = broken p
 after (Cut i) p = record p { cut = put i true p.cut; flight = put i [] p.flight }
-after (Come i) p = record p { at = i; bound = λ c e. Unknown }
-after Fall p = record p { cut = put p.at true p.cut; flight = put p.at [] p.flight; bound = λ c e. Unknown }
+after (Come i) p = noted (Came i) (record p { at = i; bound = λ c e. Unknown })
+after Fall p = noted Fell (record p { cut = put p.at true p.cut; flight = put p.at [] p.flight; bound = λ c e. Unknown })
 after Read p = read (p.flight p.at) p
 after (Stand f) p = noted (Stood f) (record p { stands = f; bound = λ c e. kept_bound (is_there (p.named c) (f c)) (p.bound c e) })
 

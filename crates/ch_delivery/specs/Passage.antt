@@ -1,5 +1,5 @@
 -- The passage from one node to another: what the sending node keeps, what is under way, and what the receiving node keeps.
-use Rattle.std.specs.Prelude.{ℕ, Bool, true, false, ◌||◌, List, [], Option, Some, None}
+use Rattle.std.specs.Prelude.{ℕ, nat_eq, Bool, true, false, ◌||◌, List, [], Option, Some, None}
 
 -- A pair is a process of the sending node and a target at the receiving node; here it is a number, c or d. Its mark: no
 -- connection is opened; one is; the link broke and nothing goes until the pair reconnects; or the sending process is over.
@@ -24,12 +24,16 @@ pub data Binding : Type 0 where
   Bound : Binding
 
 -- An entry of the log: pair c said the message k of epoch e; it was reconnected, and this is its new epoch; the message
--- was got, by process r or by nobody; the sending node's link broke; from here on these processes stand for the targets.
+-- was got, by process r or by nobody; the sending node's link came up on socket i, or broke; the receiving node's came up,
+-- or broke; from here on these processes stand for the targets.
 pub data Entry : Type 0 where
   Said : (c e k : ℕ) → Entry
   Again : (c e : ℕ) → Entry
   Got : (c e k : ℕ) (r : Option ℕ) → Entry
+  Rose : (i : ℕ) → Entry
   Broke : Entry
+  Came : (i : ℕ) → Entry
+  Fell : Entry
   Stood : (f : ℕ → Option ℕ) → Entry
 
 -- A passage. Of the sending node: which pairs have a name for their target; each pair's mark, epoch and next index; what
@@ -52,7 +56,8 @@ pub record Passage : Type 0 where
   pub stands : ℕ → Option ℕ
   pub log : List Entry
 
--- where a passage begins: nothing was said, no socket is there, and nobody stands for a target
+-- Where a passage begins: nothing was said, no socket is there, and nobody stands for a target. Sockets are numbered from
+-- 1; where a node was never up its last is 0, which is cut.
 abbrev pub start : (ℕ → Bool) → Passage
 start named = record {
   named = named;
@@ -63,7 +68,7 @@ start named = record {
   up = false;
   on = 0;
   flight = λ i. [];
-  cut = λ i. false;
+  cut = λ i. nat_eq i 0;
   at = 0;
   bound = λ c e. Unknown;
   stands = λ c. None;
