@@ -1,9 +1,9 @@
 -- What the log says of a pair's epoch and index, and that what is on the way was said.
-use Rattle.std.proofs.Common.{◌≡◌, ◌<◌, ◌≤◌, ℕ, zero, suc, nat_eq, Bool, true, false, cond, not, ◌&&◌, ◌||◌, List, [], ◌∷◌, ◌++◌, Option, refl, ap, sym, ◌∙◌, subst, arith}
+use Rattle.std.proofs.Common.{◌≡◌, ◌<◌, ◌≤◌, ℕ, suc, nat_eq, Bool, true, false, cond, not, ◌&&◌, List, [], ◌∷◌, ◌++◌, Option, refl, ap, sym, ◌∙◌, subst, arith}
 use Rattle.std.proofs.lemmas.Bool.Decides.{nat_tests}
-use Rattle.ch_delivery.specs.Passage.{Mark, Unopened, Opened, Broken, Ended, Item, Created, Message, Closed, Binding, Unknown, Void, Bound, Entry, Said, Again, Got, Rose, Broke, Came, Fell, Stood, Passage, start, is_there, is_some, is_bound, is_known}
+use Rattle.ch_delivery.specs.Passage.{Mark, Unopened, Opened, Broken, Ended, Item, Created, Message, Closed, Entry, Said, Again, Got, Rose, Broke, Came, Fell, Stood, Passage}
 use Rattle.ch_delivery.specs.Moves.{put, mark_lost, epoch_lost, index_lost}
-use Rattle.ch_delivery.specs.Log.{plus, same, gots, saids, epoch_of, has_broken, meant}
+use Rattle.ch_delivery.specs.Log.{plus, same, saids, epoch_of, has_broken, meant}
 use Rattle.ch_delivery.proofs.Links.{same_number, self_number}
 
 -- Of pair c, whose target is a name or not, with this mark, epoch and next index: the log counts its epoch, until its

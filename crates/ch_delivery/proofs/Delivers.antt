@@ -1,14 +1,14 @@
 -- What is owed whole is got whole, whatever happens to sockets and at the receiving node.
-use Rattle.std.proofs.Common.{◌≡◌, ◌<◌, ◌≤◌, ℕ, zero, suc, ◌+◌, nat_eq, Bool, true, false, cond, not, ◌&&◌, ◌||◌, List, [], ◌∷◌, ◌++◌, Option, refl, ap, sym, ◌∙◌, subst, arith}
+use Rattle.std.proofs.Common.{◌≡◌, ◌<◌, ◌≤◌, ℕ, ◌+◌, nat_eq, Bool, true, false, cond, ◌&&◌, List, [], ◌∷◌, refl, ap, sym, ◌∙◌, subst, arith}
 use Rattle.std.proofs.lemmas.Bool.Decides.{nat_tests}
-use Rattle.ch_delivery.specs.Passage.{Mark, Unopened, Opened, Broken, Ended, Item, Created, Message, Closed, Binding, Unknown, Void, Bound, Entry, Said, Again, Got, Rose, Broke, Came, Fell, Stood, Passage, start, is_there, is_some, is_bound, is_known}
-use Rattle.ch_delivery.specs.Moves.{Move, Say, Reconnect, Finish, Rise, Break, Cut, Come, Fall, Read, Stand, put, noted, marked, onto, written, write, say, reconnect, finish, mark_lost, epoch_lost, index_lost, broken, bind, bound_to, got, handle, read, kept_bound, after, Allowed, run, AllAllowed}
+use Rattle.ch_delivery.specs.Passage.{Item, Created, Message, Closed, Binding, Unknown, Void, Bound, Passage, start, is_there, is_bound}
+use Rattle.ch_delivery.specs.Moves.{Move, Say, Reconnect, Finish, Rise, Break, Cut, Come, Fall, Read, Stand, put, onto, bind, bound_to, got, handle, read, kept_bound, after, Allowed, run, AllAllowed}
 use Rattle.ch_delivery.specs.Log.{plus, same, gots, saids}
-use Rattle.ch_delivery.specs.Whole.{Drained, AllGot, owed_first, still_owed, is_owed}
-use Rattle.ch_delivery.proofs.Links.{same_number, self_number, put_here, put_there}
-use Rattle.ch_delivery.proofs.Gets.{step, steps, gets_one, gets, steps_up, gets_up, gots_less}
+use Rattle.ch_delivery.specs.Whole.{AllGot, still_owed, is_owed}
+use Rattle.ch_delivery.proofs.Links.{put_here, put_there}
+use Rattle.ch_delivery.proofs.Gets.{step, gets_one, gets, steps_up, gets_up, gots_less}
 use Rattle.ch_delivery.proofs.Keeps.{Inv, keeps, inv_run, inv_start}
-use Rattle.ch_delivery.proofs.Owed.{wrong, Enough, Streams, StreamsOf, OpenAt, Owed, retold, say_owed, reconnect_owed, finish_owed}
+use Rattle.ch_delivery.proofs.Owed.{wrong, Enough, Streams, OpenAt, Owed, say_owed, reconnect_owed, finish_owed}
 
 -- a reader for whom the connection is bound already is owed no more
 enough_up : (c e n s : ℕ) (A : Type 0) (w : List Item) (b : Bool) → Enough c e n s A w false → Enough c e n s A w b

@@ -1,15 +1,13 @@
 -- What is under way has come to its end: the present epoch is got, and nothing stray is read.
-use Rattle.std.proofs.Common.{◌≡◌, ◌<◌, ◌≤◌, ℕ, zero, suc, ◌+◌, nat_eq, Bool, true, false, cond, not, ◌&&◌, ◌||◌, List, [], ◌∷◌, ◌++◌, Option, refl, ap, sym, ◌∙◌, subst, arith}
+use Rattle.std.proofs.Common.{◌≡◌, ◌≤◌, ℕ, nat_eq, Bool, true, false, cond, List, [], refl, ◌∙◌, subst, arith}
 use Rattle.std.proofs.lemmas.Bool.Decides.{nat_tests}
-use Rattle.ch_delivery.specs.Passage.{Mark, Unopened, Opened, Broken, Ended, Item, Created, Message, Closed, Binding, Unknown, Void, Bound, Entry, Said, Again, Got, Rose, Broke, Came, Fell, Stood, Passage, start, is_there, is_some, is_bound, is_known}
-use Rattle.ch_delivery.specs.Log.{gots, saids}
-use Rattle.ch_delivery.specs.Whole.{Drained, PresentGot}
-use Rattle.ch_delivery.specs.Stray.{IsExpected, NoneStray}
+use Rattle.ch_delivery.specs.Passage.{Mark, Item, Created, Message, Closed, Binding, Unknown, Void, Bound, Passage, is_bound}
+use Rattle.ch_delivery.specs.Log.{gots}
+use Rattle.ch_delivery.specs.Whole.{PresentGot}
+use Rattle.ch_delivery.specs.Stray.{NoneStray}
 use Rattle.ch_delivery.specs.Invariant.{NamesGoOn}
-use Rattle.ch_delivery.proofs.Ear.{Ear, Idle, In, Bad, Le, heard, tail, cap}
+use Rattle.ch_delivery.proofs.Ear.{Ear, Idle, In, Le, heard, tail, cap}
 use Rattle.ch_delivery.proofs.Known.{Known, in_order, created_new, closed_known}
-use Rattle.ch_delivery.proofs.Links.{self_number}
-use Rattle.ch_delivery.proofs.Pairs.{Ordered}
 use Rattle.ch_delivery.proofs.Sockets.{next_before}
 use Rattle.ch_delivery.proofs.Keeps.{Inv}
 

@@ -1,7 +1,7 @@
 -- How many messages of one epoch a reader gets of a word of items, if the target is there.
-use Rattle.std.proofs.Common.{◌≡◌, ◌<◌, ◌≤◌, ℕ, zero, suc, ◌+◌, nat_eq, Bool, true, false, cond, not, ◌&&◌, ◌||◌, List, [], ◌∷◌, ◌++◌, Option, refl, ap, sym, ◌∙◌, subst, arith}
+use Rattle.std.proofs.Common.{◌≡◌, ◌<◌, ◌≤◌, ℕ, ◌+◌, nat_eq, Bool, true, false, cond, ◌&&◌, List, [], ◌∷◌, ◌++◌, Option, refl, ap, ◌∙◌, subst, arith}
 use Rattle.std.proofs.lemmas.Bool.Decides.{nat_tests}
-use Rattle.ch_delivery.specs.Passage.{Mark, Unopened, Opened, Broken, Ended, Item, Created, Message, Closed, Binding, Unknown, Void, Bound, Entry, Said, Again, Got, Rose, Broke, Came, Fell, Stood, Passage, start, is_there, is_some, is_bound, is_known}
+use Rattle.ch_delivery.specs.Passage.{Item, Created, Message, Closed, Entry, Said, Again, Got, Rose, Broke, Came, Fell, Stood}
 use Rattle.ch_delivery.specs.Log.{plus, same, gots, saids, meant, LawfulGot, Lawful}
 use Rattle.ch_delivery.proofs.Counts.{meant_less}
 

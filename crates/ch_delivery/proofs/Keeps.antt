@@ -1,16 +1,16 @@
 -- The invariant, which each move keeps.
-use Rattle.std.proofs.Common.{◌≡◌, ◌<◌, ◌≤◌, ℕ, zero, suc, nat_eq, Bool, true, false, cond, not, ◌&&◌, ◌||◌, List, [], ◌∷◌, ◌++◌, ◌⊎◌, inl, inr, Option, Some, None, refl, ap, sym, ◌∙◌, subst, arith}
+use Rattle.std.proofs.Common.{◌≡◌, ◌<◌, ℕ, suc, nat_eq, Bool, true, false, cond, not, ◌&&◌, ◌||◌, List, [], ◌∷◌, ◌⊎◌, inl, inr, Option, Some, refl, ap, sym, ◌∙◌, subst, arith}
 use Rattle.std.proofs.lemmas.Bool.Decides.{nat_tests}
-use Rattle.ch_delivery.specs.Passage.{Mark, Unopened, Opened, Broken, Ended, Item, Created, Message, Closed, Binding, Unknown, Void, Bound, Entry, Said, Again, Got, Rose, Broke, Came, Fell, Stood, Passage, start, is_there, is_some, is_bound, is_known}
-use Rattle.ch_delivery.specs.Moves.{Move, Say, Reconnect, Finish, Rise, Break, Cut, Come, Fall, Read, Stand, put, noted, marked, onto, written, write, say, reconnect, finish, mark_lost, epoch_lost, index_lost, broken, bind, bound_to, got, handle, read, kept_bound, after, Allowed, run, AllAllowed}
-use Rattle.ch_delivery.specs.Log.{gots, saids, meant, has_broken, stood, has_risen, up_at, hears, LawfulGot, Lawful}
+use Rattle.ch_delivery.specs.Passage.{Mark, Unopened, Opened, Broken, Ended, Item, Created, Message, Closed, Binding, Unknown, Void, Bound, Entry, Said, Again, Got, Rose, Broke, Came, Fell, Stood, Passage, start, is_there}
+use Rattle.ch_delivery.specs.Moves.{Move, Say, Reconnect, Finish, Rise, Break, Cut, Come, Fall, Read, Stand, put, noted, marked, onto, written, say, reconnect, finish, bound_to, got, handle, read, kept_bound, after, Allowed, run, AllAllowed}
+use Rattle.ch_delivery.specs.Log.{gots, meant, stood, has_risen, up_at, hears, Lawful}
 use Rattle.ch_delivery.specs.Invariant.{IsReached}
 use Rattle.ch_delivery.proofs.Ear.{cap}
 use Rattle.ch_delivery.proofs.Known.{in_order}
-use Rattle.ch_delivery.proofs.Links.{by_test, same_number, self_number, put_here, put_there}
+use Rattle.ch_delivery.proofs.Links.{same_number, self_number, put_here, put_there}
 use Rattle.ch_delivery.proofs.Pairs.{Ordered, Ahead, say_pair, reconnect_pair, finish_pair, start_pair}
 use Rattle.ch_delivery.proofs.Sockets.{next_before, read_pair, cut_pair, fall_pair, break_pair, stand_pair, rise_pair, come_pair}
-use Rattle.ch_delivery.proofs.Counts.{Counts, CountsOf, said_counts, again_counts, finish_counts, got_counts, apart_counts, broke_counts, next_mark, meant_next, Sent, AllSent, sent_append, all_more}
+use Rattle.ch_delivery.proofs.Counts.{CountsOf, said_counts, again_counts, finish_counts, got_counts, apart_counts, broke_counts, next_mark, meant_next, Sent, AllSent, sent_append, all_more}
 
 -- all that is on the way was said before its epoch broke
 pub record Sents (l : List Entry) (flight : ℕ → List Item) (waits : List Item) : Type 0 where

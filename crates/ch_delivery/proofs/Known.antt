@@ -1,8 +1,8 @@
 -- What the log and the table of connections say of a pair that is heard so far.
-use Rattle.std.proofs.Common.{◌≡◌, ◌<◌, ◌≤◌, ℕ, zero, suc, nat_eq, Bool, true, false, cond, ◌&&◌, refl, ap, sym, ◌∙◌, subst, arith}
+use Rattle.std.proofs.Common.{◌≡◌, ◌<◌, ◌≤◌, ℕ, suc, nat_eq, Bool, true, false, cond, ◌&&◌, refl, ap, sym, ◌∙◌, subst, arith}
 use Rattle.std.proofs.lemmas.Bool.Decides.{nat_tests}
 use lib.Dec.{leb}
-use Rattle.ch_delivery.specs.Passage.{Item, Created, Message, Closed, Binding, Unknown, Void, Bound, is_known, is_bound}
+use Rattle.ch_delivery.specs.Passage.{Created, Message, Closed, Binding, Unknown, Bound, is_known, is_bound}
 use Rattle.ch_delivery.specs.Log.{plus}
 use Rattle.ch_delivery.proofs.Ear.{Ear, Idle, In, Bad, Before, hear, opened, counted, ended, quit}
 

@@ -1,10 +1,10 @@
 -- The sockets one after another, as who hears pair c comes to their ends, and what keeps them in order.
-use Rattle.std.proofs.Common.{◌≡◌, ◌<◌, ◌≤◌, ℕ, zero, suc, nat_eq, Bool, true, false, cond, ◌&&◌, List, [], ◌∷◌, ◌++◌, refl, ap, sym, ◌∙◌, subst, arith}
+use Rattle.std.proofs.Common.{◌≡◌, ◌<◌, ◌≤◌, ℕ, nat_eq, Bool, true, false, cond, List, [], ◌++◌, refl, ap, sym, ◌∙◌, subst, arith}
 use Rattle.std.proofs.lemmas.Bool.Decides.{nat_tests}
 use lib.Dec.{leb}
 use Rattle.ch_delivery.specs.Passage.{Item}
 use Rattle.ch_delivery.specs.Moves.{put}
-use Rattle.ch_delivery.proofs.Ear.{Ear, Idle, In, Bad, Before, Le, heard, heard_mono, heard_append, heard_before, le_trans, le_self, before_more, quit, quit_before}
+use Rattle.ch_delivery.proofs.Ear.{Ear, Idle, Before, Le, heard, heard_mono, heard_append, heard_before, le_trans, le_self, before_more}
 
 pub by_test : {P : Type 0} (b : Bool) → (b ≡ true → P) → (b ≡ false → P) → P
 by_test true f g = f refl

@@ -1,14 +1,12 @@
 -- What is owed whole is on the way whole, until it is got.
-use Rattle.std.proofs.Common.{◌≡◌, ◌<◌, ◌≤◌, ℕ, zero, suc, ◌+◌, nat_eq, Bool, true, false, cond, not, ◌&&◌, ◌||◌, List, [], ◌∷◌, ◌++◌, Option, refl, ap, sym, ◌∙◌, subst, arith}
+use Rattle.std.proofs.Common.{◌≡◌, ◌<◌, ◌≤◌, ℕ, suc, ◌+◌, nat_eq, Bool, true, false, cond, not, ◌&&◌, List, [], ◌∷◌, ◌++◌, refl, ap, sym, ◌∙◌, subst, arith}
 use Rattle.std.proofs.lemmas.Bool.Decides.{nat_tests}
-use Rattle.ch_delivery.specs.Passage.{Mark, Unopened, Opened, Broken, Ended, Item, Created, Message, Closed, Binding, Unknown, Void, Bound, Entry, Said, Again, Got, Rose, Broke, Came, Fell, Stood, Passage, start, is_there, is_some, is_bound, is_known}
-use Rattle.ch_delivery.specs.Moves.{Move, Say, Reconnect, Finish, Rise, Break, Cut, Come, Fall, Read, Stand, put, noted, marked, onto, written, write, say, reconnect, finish, mark_lost, epoch_lost, index_lost, broken, bind, bound_to, got, handle, read, kept_bound, after, Allowed, run, AllAllowed}
+use Rattle.ch_delivery.specs.Passage.{Mark, Unopened, Opened, Broken, Ended, Item, Created, Message, Closed, Said, Again, Passage, is_there, is_bound}
+use Rattle.ch_delivery.specs.Moves.{put, noted, marked, onto, written, write, say, reconnect, finish}
 use Rattle.ch_delivery.specs.Log.{plus, same, gots, saids}
-use Rattle.ch_delivery.specs.Whole.{Drained, AllGot, owed_first, still_owed, is_owed}
-use Rattle.ch_delivery.proofs.Links.{same_number, self_number, put_here, put_there}
-use Rattle.ch_delivery.proofs.Counts.{Counts}
-use Rattle.ch_delivery.proofs.Gets.{step, steps, gets_one, gets, steps_append, gets_append, steps_up, gets_up, gots_less}
-use Rattle.ch_delivery.proofs.Keeps.{Inv, keeps, inv_run, inv_start}
+use Rattle.ch_delivery.specs.Whole.{owed_first}
+use Rattle.ch_delivery.proofs.Links.{same_number, put_here}
+use Rattle.ch_delivery.proofs.Gets.{steps, gets, steps_append, gets_append}
 
 pub wrong : false ≡ true → ⊥
 wrong h = cc

@@ -1,13 +1,13 @@
 -- Each pair is heard in order: what is so, and that what the sending processes do keeps it.
-use Rattle.std.proofs.Common.{◌≡◌, ◌<◌, ◌≤◌, ℕ, zero, suc, nat_eq, Bool, true, false, cond, not, ◌&&◌, ◌||◌, List, [], ◌∷◌, ◌++◌, refl, ap, sym, ◌∙◌, subst, arith}
+use Rattle.std.proofs.Common.{◌≡◌, ◌<◌, ◌≤◌, ℕ, suc, nat_eq, Bool, true, false, cond, not, ◌&&◌, List, [], ◌∷◌, ◌++◌, refl, ap, sym, ◌∙◌, subst, arith}
 use Rattle.std.proofs.lemmas.Bool.Decides.{nat_tests}
 use lib.Dec.{leb}
-use Rattle.ch_delivery.specs.Passage.{Mark, Unopened, Opened, Broken, Ended, Item, Created, Message, Closed, Binding, Unknown, Void, Bound, Entry, Said, Again, Got, Rose, Broke, Came, Fell, Stood, Passage, start, is_there, is_some, is_bound, is_known}
-use Rattle.ch_delivery.specs.Moves.{Move, Say, Reconnect, Finish, Rise, Break, Cut, Come, Fall, Read, Stand, put, noted, marked, onto, written, write, say, reconnect, finish, mark_lost, epoch_lost, index_lost, broken, bind, bound_to, got, handle, read, kept_bound, after, Allowed, run, AllAllowed}
-use Rattle.ch_delivery.specs.Log.{plus, gots}
-use Rattle.ch_delivery.proofs.Ear.{Ear, Idle, In, Bad, Before, Le, hear, heard, heard_before, heard_mono, heard_append, le_self, le_trans, quit, quit_before, tail, cap, tail_cap}
-use Rattle.ch_delivery.proofs.Known.{Known, Tamer, known_ext, same_table, quit_known, known_created, known_closed, known_message, known_dropped}
-use Rattle.ch_delivery.proofs.Links.{by_test, same_number, self_number, put_here, put_there, apart, Links, retold, waited, flowed, lowered, broke, risen, risen_keeps, come_keeps, by_order}
+use Rattle.ch_delivery.specs.Passage.{Mark, Unopened, Opened, Broken, Ended, Item, Created, Message, Closed, Entry, Said, Again, Passage, start}
+use Rattle.ch_delivery.specs.Moves.{put, noted, marked, onto, written, write, say, reconnect, finish}
+use Rattle.ch_delivery.specs.Log.{gots}
+use Rattle.ch_delivery.proofs.Ear.{Ear, Idle, In, Bad, Before, Le, hear, heard, heard_append, le_self, le_trans, tail, cap, tail_cap}
+use Rattle.ch_delivery.proofs.Known.{Known, known_ext, same_table}
+use Rattle.ch_delivery.proofs.Links.{same_number, self_number, put_here, put_there, Links, retold, waited, flowed}
 
 -- where the reader of pair c would be after what is unread on socket i: on the socket that it reads it goes on from r, and
 -- on others it begins at their floor

@@ -1,14 +1,14 @@
 -- What happens to sockets, and what the receiving node does, keeps each pair heard in order.
-use Rattle.std.proofs.Common.{◌≡◌, ◌<◌, ◌≤◌, ℕ, zero, suc, nat_eq, Bool, true, false, cond, not, ◌&&◌, ◌||◌, List, [], ◌∷◌, ◌++◌, Option, refl, ap, sym, ◌∙◌, subst, arith}
+use Rattle.std.proofs.Common.{◌≡◌, ◌<◌, ◌≤◌, ℕ, nat_eq, Bool, true, false, cond, ◌&&◌, List, [], ◌∷◌, Option, refl, ap, sym, ◌∙◌, subst, arith}
 use Rattle.std.proofs.lemmas.Bool.Decides.{nat_tests}
 use lib.Dec.{leb}
-use Rattle.ch_delivery.specs.Passage.{Mark, Unopened, Opened, Broken, Ended, Item, Created, Message, Closed, Binding, Unknown, Void, Bound, Entry, Said, Again, Got, Rose, Broke, Came, Fell, Stood, Passage, start, is_there, is_some, is_bound, is_known}
-use Rattle.ch_delivery.specs.Moves.{Move, Say, Reconnect, Finish, Rise, Break, Cut, Come, Fall, Read, Stand, put, noted, marked, onto, written, write, say, reconnect, finish, mark_lost, epoch_lost, index_lost, broken, bind, bound_to, got, handle, read, kept_bound, after, Allowed, run, AllAllowed}
-use Rattle.ch_delivery.specs.Log.{plus, gots}
-use Rattle.ch_delivery.proofs.Ear.{Ear, Idle, In, Bad, Before, Le, hear, heard, heard_before, heard_mono, le_self, le_trans, quit, quit_before, tail, cap, tail_cap}
-use Rattle.ch_delivery.proofs.Known.{Known, Tamer, known_ext, same_table, quit_known, known_created, known_closed, known_message, known_dropped}
-use Rattle.ch_delivery.proofs.Links.{by_test, same_number, self_number, put_here, put_there, apart, Links, lowered, broke, risen, risen_keeps, come_keeps}
-use Rattle.ch_delivery.proofs.Pairs.{ends, LinksOf, Ordered, Ahead, say_pair}
+use Rattle.ch_delivery.specs.Passage.{Mark, Unopened, Opened, Broken, Ended, Item, Created, Message, Closed, Binding, Unknown, Void, Bound, Entry, Got, Passage, is_there, is_bound, is_known}
+use Rattle.ch_delivery.specs.Moves.{Rise, Break, Cut, Come, Fall, Stand, put, onto, mark_lost, epoch_lost, index_lost, bound_to, got, handle, read, kept_bound, after}
+use Rattle.ch_delivery.specs.Log.{gots}
+use Rattle.ch_delivery.proofs.Ear.{Ear, Idle, Before, Le, hear, heard, heard_before, heard_mono, quit, quit_before, tail, cap, tail_cap}
+use Rattle.ch_delivery.proofs.Known.{Known, Tamer, known_ext, quit_known, known_created, known_closed, known_message, known_dropped}
+use Rattle.ch_delivery.proofs.Links.{same_number, self_number, put_here, put_there, Links, lowered, broke, risen, risen_keeps, come_keeps}
+use Rattle.ch_delivery.proofs.Pairs.{ends, LinksOf, Ordered, Ahead}
 
 first : (b : Bool) (r s : Ear) (f : ℕ) → b ≡ true → Before (cond b r s) f → Before r f
 first b r s f h q = subst (λ (x : Bool). Before (cond x r s) f) h q

@@ -1,8 +1,8 @@
 -- A message whose index is below the count of those said before the break stands in the log.
-use Rattle.std.proofs.Common.{◌≡◌, ◌<◌, ◌≤◌, ℕ, zero, suc, nat_eq, Bool, true, false, cond, not, ◌&&◌, List, [], ◌∷◌, ◌++◌, refl, ap, sym, ◌∙◌, subst, arith}
+use Rattle.std.proofs.Common.{◌≡◌, ◌<◌, ℕ, nat_eq, Bool, true, false, not, ◌&&◌, List, [], ◌∷◌, refl, ap, sym, ◌∙◌, arith}
 use Rattle.std.proofs.lemmas.Bool.Decides.{nat_tests}
 use Rattle.ch_delivery.specs.Passage.{Entry, Said, Again, Got, Rose, Broke, Came, Fell, Stood}
-use Rattle.ch_delivery.specs.Log.{plus, gots, saids, has_broken, meant, same, LawfulGot, Lawful, WasSaid, AllSaid}
+use Rattle.ch_delivery.specs.Log.{plus, saids, has_broken, meant, same, Lawful, WasSaid, AllSaid}
 use Rattle.ch_delivery.proofs.Counts.{unmeant}
 use Rattle.ch_delivery.proofs.Links.{by_order}
 

@@ -5,3 +5,4 @@ pub mod Whole
 pub mod Stray
 pub mod Invariant
 pub mod Rows
+pub mod Wrong

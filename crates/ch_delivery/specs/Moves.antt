@@ -148,12 +148,24 @@ Allowed (Rise i) p = (p.up ≡ false) × (p.on < i)
 Allowed (Come i) p = p.at < i
 Allowed m p = Unit {0}
 
+-- what a move leads to, as `after` says or by other rules
+abbrev pub Rules : Type 0
+Rules = Move → Passage → Passage
+
+-- the passage after the moves, by these rules
+abbrev pub run_by : Rules → List Move → Passage → Passage
+run_by rules [] p = p
+run_by rules (m ∷ ms) p = run_by rules ms (rules m p)
+
 -- the passage after the moves
 abbrev pub run : List Move → Passage → Passage
-run [] p = p
-run (m ∷ ms) p = run ms (after m p)
+run ms p = run_by after ms p
+
+-- each move may happen after those before it, by these rules
+abbrev pub AllAllowedBy : Rules → List Move → Passage → Type 0
+AllAllowedBy rules [] p = Unit {0}
+AllAllowedBy rules (m ∷ ms) p = Allowed m p × AllAllowedBy rules ms (rules m p)
 
 -- each move may happen after those before it
 abbrev pub AllAllowed : List Move → Passage → Type 0
-AllAllowed [] p = Unit {0}
-AllAllowed (m ∷ ms) p = Allowed m p × AllAllowed ms (after m p)
+AllAllowed ms p = AllAllowedBy after ms p

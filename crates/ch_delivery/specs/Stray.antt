@@ -1,5 +1,5 @@
 -- That nothing stray is read: an item comes where its connection stands.
-use Rattle.std.specs.Prelude.{◌≡◌, ℕ, Bool, true, false, List, ◌∷◌}
+use Rattle.std.specs.Prelude.{◌≡◌, true, false, List, ◌∷◌}
 use Rattle.ch_delivery.specs.Passage.{Item, Created, Message, Closed, Passage, is_known}
 
 -- a connection is created that isn't known, and a message or a close comes on one that is

@@ -1,7 +1,7 @@
 -- Whole delivery: when all that was said is owed, and when it has to be there.
 use Rattle.std.specs.Prelude.{◌≡◌, ℕ, nat_eq, Bool, true, false, cond, ◌&&◌, List, [], ◌∷◌}
 use Rattle.ch_delivery.specs.Passage.{Mark, Unopened, Opened, Passage, is_there, is_bound}
-use Rattle.ch_delivery.specs.Moves.{Move, Say, Reconnect, Finish, Rise, Break, Cut, Come, Fall, Read, Stand, after}
+use Rattle.ch_delivery.specs.Moves.{Move, Say, Break, Stand, after}
 use Rattle.ch_delivery.specs.Log.{gots, saids}
 
 -- both nodes are up on one socket, which isn't cut, and nothing is unread there

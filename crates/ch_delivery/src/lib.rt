@@ -6,12 +6,13 @@
 
 ghost use Rattle.std.specs.Prelude.{◌≡◌, ℕ, Bool, true, List, [], ◌∷◌, Some, None, false};
 ghost use Rattle.ch_delivery.specs.Passage.{Passage, start, Said, Again, Got, Rose, Broke, Came, Fell, Stood};
-ghost use Rattle.ch_delivery.specs.Moves.{Move, run, AllAllowed};
+ghost use Rattle.ch_delivery.specs.Moves.{Move, run, run_by, AllAllowed, AllAllowedBy};
 ghost use Rattle.ch_delivery.specs.Log.{Lawful, AllSaid};
 ghost use Rattle.ch_delivery.specs.Whole.{PresentGot, AllGot, is_owed};
 ghost use Rattle.ch_delivery.specs.Stray.{NoneStray};
 ghost use Rattle.ch_delivery.specs.Invariant.{IsReached, NamesGoOn};
 ghost use Rattle.ch_delivery.specs.Rows.{no_names, one_name, seven, nobody, lost_and_reconnected, closed_early, to_a_name, too_late};
+ghost use Rattle.ch_delivery.specs.Wrong.{gets_twice, one_message, heals, a_gap, forgets, one_waits, repeats_epochs, said_again, speaks_on, past_a_break, outlives, read_late, breaks_names, a_break};
 
 /// Messages from one process to a target come in order, each at most once, whatever is lost, late or replaced: a message
 /// is got only if it was said before its epoch broke, after those of its epoch that were said before it and before any of
@@ -71,4 +72,47 @@ pub fn a_name()
 pub fn too_late_for_it()
     ensures allowed { AllAllowed too_late (start no_names) }
     ensures log { (run too_late (start no_names)).log ≡ Stood nobody ∷ Said 0 1 0 ∷ Again 0 1 ∷ Stood seven ∷ Came 1 ∷ Rose 1 ∷ Said 0 0 0 ∷ [] }
+{}
+
+/// Were a message got twice, the second would come where the next is due. `in_order_and_once` forbids it.
+pub fn getting_twice()
+    ensures allowed { AllAllowedBy gets_twice one_message (start no_names) }
+    ensures forbidden { Lawful no_names (run_by gets_twice one_message (start no_names)).log → ⊥ }
+{}
+
+/// Did more come from a socket that was cut, the third message could be got without the second.
+pub fn healing()
+    ensures allowed { AllAllowedBy heals a_gap (start no_names) }
+    ensures forbidden { Lawful no_names (run_by heals a_gap (start no_names)).log → ⊥ }
+{}
+
+/// Were what waits forgotten when a link comes up, a message would be owed and never come. `all_that_was_said` forbids it.
+pub fn forgetting()
+    ensures allowed { AllAllowedBy forgets one_waits (start no_names) }
+    ensures owed { is_owed 0 0 one_waits (start no_names) false ≡ true }
+    ensures forbidden { AllGot 0 0 (run_by forgets one_waits (start no_names)) → ⊥ }
+{}
+
+/// Did a reconnect go on in the same epoch, two messages would have one number.
+pub fn repeating_epochs()
+    ensures allowed { AllAllowedBy repeats_epochs said_again (start no_names) }
+    ensures forbidden { Lawful no_names (run_by repeats_epochs said_again (start no_names)).log → ⊥ }
+{}
+
+/// Did a broken pair speak on, a message could be got past a loss that nobody was told.
+pub fn speaking_on()
+    ensures allowed { AllAllowedBy speaks_on past_a_break (start no_names) }
+    ensures forbidden { Lawful no_names (run_by speaks_on past_a_break (start no_names)).log → ⊥ }
+{}
+
+/// Did a connection outlive the process that it leads to, nobody would get what a process should.
+pub fn outliving()
+    ensures allowed { AllAllowedBy outlives read_late (start no_names) }
+    ensures forbidden { Lawful no_names (run_by outlives read_late (start no_names)).log → ⊥ }
+{}
+
+/// Were a pair with a name broken as any other, nothing could ever reconnect it. `names_go_on` forbids it.
+pub fn breaking_names()
+    ensures allowed { AllAllowedBy breaks_names a_break (start one_name) }
+    ensures forbidden { NamesGoOn (run_by breaks_names a_break (start one_name)) → ⊥ }
 {}
