@@ -3,7 +3,7 @@
 //! An endpoint hears of them by the socket's frames: created, closed, and data on an id.
 
 ghost use Rattle.std.specs.Prelude.{◌≡◌, ◌-◌, ◌<◌, ◌≤◌, [], length, MatchResult, OnOk, OnErr};
-ghost use Rattle.ch_light.specs.Ids.{IsFree, created_of, conn_of, closed_of, Fails};
+ghost use Rattle.ch_light.specs.Ids.{created_of, conn_of, closed_of, Fails};
 
 use crate::{Connection, FIRST_ID, LightError, MOST_IDS};
 use std::alloc::Global;
@@ -37,13 +37,12 @@ impl Incoming {
         }
     }
 
-    /// The other end created `id`. It stands for the connection `conn`, which isn't open here.
+    /// The other end created `id`. It stands for the connection `conn`.
     ///
     /// `Spent` exactly where 65,536 ids were created; else `NotNext` exactly where `id` isn't the next, which is 1024
     /// at first and then one more each time; `OutOfMemory` where the list can't grow. Each leaves the value.
     #[tactic(auto, unfolding(crate::specs::Ids::created_of))]
     pub fn created(&mut self, id: u32, conn: u64) -> Result<(), LightError>
-        requires { IsFree self.old conn }
         ensures does { MatchResult result (λ _. created_of self.old id conn ≡ Ok self.new) (λ e. Fails e (created_of self.old id conn)) }
         ensures err { OnErr result (self.new ≡ self.old) }
     {

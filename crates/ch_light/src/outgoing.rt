@@ -3,7 +3,7 @@
 //! An endpoint gives an id when a connection is opened for the socket that is up or awaited.
 
 ghost use Rattle.std.specs.Prelude.{◌≡◌, ◌<◌, ◌≤◌, [], length, MatchResult, OnErr, IfSome};
-ghost use Rattle.ch_light.specs.Ids.{IsFree, place_of, id_of, give_of, close_of, Fails};
+ghost use Rattle.ch_light.specs.Ids.{place_of, id_of, give_of, close_of, Fails};
 
 use crate::{Connection, FIRST_ID, LightError, MOST_IDS};
 use std::alloc::Global;
@@ -37,12 +37,12 @@ impl Outgoing {
         }
     }
 
-    /// Gives the connection `conn`, which isn't open here, the next id: 1024 at first, then one more each time.
+    /// Gives the connection `conn` the next id: 1024 at first, then one more each time. One that is open here
+    /// already keeps its first id for `id_of` and `close`, so a caller gives each connection once.
     ///
     /// `Spent` exactly where 65,536 ids were given, `OutOfMemory` where the list can't grow. Both leave the value.
     #[tactic(auto, unfolding(crate::specs::Ids::give_of))]
     pub fn give(&mut self, conn: u64) -> Result<u32, LightError>
-        requires { IsFree self.old conn }
         ensures does { MatchResult result (λ id. give_of self.old conn ≡ Ok (id, self.new)) (λ e. Fails e (give_of self.old conn)) }
         ensures err { OnErr result (self.new ≡ self.old) }
     {

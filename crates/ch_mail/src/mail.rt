@@ -1,7 +1,7 @@
 //! The mail of a node: its processes by number.
 
-ghost use Rattle.std.specs.Prelude.{◌≡◌, [], Some, None, Ok, Err, MatchResult, IfOk, OnErr};
-ghost use Rattle.std.specs.Option.{option_copied};
+ghost use Rattle.std.specs.Prelude.{◌≡◌, [], false, length, nat_lt, slice_get, Some, None, Ok, Err, MatchResult, IfOk, OnErr};
+ghost use Rattle.std.specs.Option.{option_copied, option_map_or};
 
 use crate::error::MailError;
 use crate::life::Life;
@@ -154,6 +154,16 @@ impl Mail {
         match self.processes.get_mut(process as usize) {
             None => Err(MailError::NotLive),
             Some(process) => process.open_port(),
+        }
+    }
+
+    /// Whether a process has opened that port. It takes no memory.
+    pub fn has_port(&self, process: u32, port: u32) -> bool
+        ensures { result ≡ option_map_or (λ process. nat_lt port (length process.ports)) (slice_get self.now process) false }
+    {
+        match self.processes.get(process as usize) {
+            None => false,
+            Some(process) => process.has_port(port),
         }
     }
 

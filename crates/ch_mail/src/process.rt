@@ -1,6 +1,6 @@
 //! One process: its life, its mailbox and its ports.
 
-ghost use Rattle.std.specs.Prelude.{◌≡◌, Some, None, Ok, Err, MatchResult, IfOk, OnErr};
+ghost use Rattle.std.specs.Prelude.{◌≡◌, length, nat_lt, Some, None, Ok, Err, MatchResult, IfOk, OnErr};
 
 use crate::error::MailError;
 use crate::life::Life;
@@ -58,6 +58,13 @@ impl Process {
         ensures { result ≡ waiting_in self.now }
     {
         self.waiting
+    }
+
+    /// Whether it has opened that port.
+    pub fn has_port(&self, port: u32) -> bool
+        ensures { result ≡ nat_lt port (length self.now.ports) }
+    {
+        (port as usize) < self.ports.len()
     }
 
     /// Dooms it, by this text. It is false exactly where it isn't live, and then, as after

@@ -137,6 +137,12 @@ found_watch t owner n same low next es r =
     let first = taken_watch t owner n same low next es r in
     found (is_watch_of owner n) (values_of es) ∙ ap (option_map (λ x. x.0)) first ∙ first_of (passing (is_watch_of owner n) (lookup t es)) (values_of (remove_entry t es))
 
+-- what is looked up by number is the first under that number
+pub found_number : (t : ℕ → Bool) (n : ℕ) → ((q : ℕ) → t q ≡ (q == n)) → (low next : ℕ) (es : List (ℕ × Waiting)) → Rises low es next → find (has_number n) (values_of es) ≡ lookup t es
+found_number t n same low next es r =
+    let first = taken_number t n same low next es r in
+    found (has_number n) (values_of es) ∙ ap (option_map (λ x. x.0)) first ∙ first_of (lookup t es) (values_of (remove_entry t es))
+
 turned : (a b : ℕ) → (a == b) ≡ (b == a)
 turned a b = both (a == b) (b == a) refl refl
   where

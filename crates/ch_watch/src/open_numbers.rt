@@ -79,6 +79,13 @@ impl OpenNumbers {
         Ok(())
     }
 
+    /// What is open under a number, of whatever kind it is.
+    pub fn find_number(&self, number: u32) -> Option<&Waiting>
+        ensures { option_copied result ≡ find (has_number number) self.now.waiting }
+    {
+        self.table.get(&number)
+    }
+
     /// The monitor or link of an owner under a number.
     pub fn find_watch(&self, owner: u32, number: u32) -> Option<&Waiting>
         ensures { option_copied result ≡ find (is_watch_under owner number) self.now.waiting }

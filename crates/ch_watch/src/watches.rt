@@ -1,7 +1,8 @@
 //! The watches and names of a node.
 
-ghost use Rattle.std.specs.Prelude.{◌≡◌, ◌<◌, ◌+◌, ◌++◌, ◌∷◌, [], Ok, Err, MatchResult, IfOk, OnErr};
+ghost use Rattle.std.specs.Prelude.{◌≡◌, ◌<◌, ◌+◌, ◌++◌, ◌∷◌, [], find, Ok, Err, MatchResult, IfOk, OnErr};
 ghost use Rattle.std.specs.Option.{option_copied};
+ghost use Rattle.ch_watch.specs.Open.{has_number};
 
 use crate::ending::Ending;
 use crate::error::WatchError;
@@ -45,6 +46,13 @@ impl Watches {
             watched: Vec::new(alloc),
             names: NameTable::new(alloc),
         }
+    }
+
+    /// The number that is opened next. It takes no memory.
+    pub fn next(&self) -> u32
+        ensures { result ≡ self.now.next }
+    {
+        self.numbers.next()
     }
 
     /// Opens the next number for an owner, and answers it. It stops as `Worn` exactly where the counter of
@@ -101,6 +109,14 @@ impl Watches {
         ensures { option_copied result ≡ waiting_of self.now owner number }
     {
         self.numbers.find_watch(owner, number)
+    }
+
+    /// What is open under a number, of whatever kind it is. It takes no memory.
+    /// Cost: the logarithm of the open numbers.
+    pub fn open(&self, number: u32) -> Option<&Waiting>
+        ensures { option_copied result ≡ find (has_number number) self.now.waiting }
+    {
+        self.numbers.find_number(number)
     }
 
     /// Keeps a watch on an own process. After `OutOfMemory` nothing is changed.
