@@ -153,7 +153,7 @@ again_other name c d g m e k l h s = record {
   goes_on = s.goes_on;
 }
 
-finish_own : (name : Bool) (d : ℕ) (m : Mark) (e k : ℕ) (l : List Entry) → Counts name d m e k l → Counts name d Ended e k l
+pub finish_own : (name : Bool) (d : ℕ) (m : Mark) (e k : ℕ) (l : List Entry) → Counts name d m e k l → Counts name d Ended e k l
 finish_own name d m e k l s = record {
   epoch = λ h. absurd (h refl);
   index = s.index;

@@ -2,7 +2,7 @@
 use Rattle.std.proofs.Common.{◌≡◌, ◌<◌, ◌≤◌, ℕ, ◌+◌, nat_eq, Bool, true, false, cond, ◌&&◌, List, [], ◌∷◌, refl, ap, sym, ◌∙◌, subst, arith}
 use Rattle.std.proofs.lemmas.Bool.Decides.{nat_tests}
 use Rattle.ch_delivery.specs.Passage.{Item, Created, Message, Closed, Binding, Unknown, Void, Bound, Passage, start, is_there, is_bound}
-use Rattle.ch_delivery.specs.Moves.{Move, Say, Reconnect, Finish, Rise, Break, Cut, Come, Fall, Read, Stand, put, onto, bind, bound_to, got, handle, read, kept_bound, after, Allowed, run, AllAllowed}
+use Rattle.ch_delivery.specs.Moves.{Move, Say, Reconnect, Finish, Rise, Break, Shut, Cut, Come, Fall, Read, Stand, put, onto, bind, bound_to, got, handle, read, kept_bound, after, Allowed, run, AllAllowed}
 use Rattle.ch_delivery.specs.Log.{plus, same, gots, saids}
 use Rattle.ch_delivery.specs.Whole.{AllGot, still_owed, is_owed}
 use Rattle.ch_delivery.proofs.Links.{put_here, put_there}
@@ -159,6 +159,7 @@ owed_kept c e (Rise i) p owed is v s k = record {
   on_socket x b = subst (λ (w : List Item). Enough c e (gots c e p.log) (saids c e p.log) (OpenAt c e p) w b) (sym (put_here i (onto (p.cut i) [] p.waits) p.flight ∙ ap (λ (z : Bool). onto z [] p.waits) x))
       (enough_up c e (gots c e p.log) (saids c e p.log) (OpenAt c e p) p.waits b ((s k).streams.held is.0))
 owed_kept c e Break p owed is v s k = absurd (wrong k)
+owed_kept c e Shut p owed is v s k = absurd (wrong k)
 owed_kept c e (Cut i) p owed is v s k = record {
   there = (s k).there;
   not_before = (s k).not_before;

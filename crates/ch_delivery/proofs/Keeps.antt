@@ -2,15 +2,15 @@
 use Rattle.std.proofs.Common.{◌≡◌, ◌<◌, ℕ, suc, nat_eq, Bool, true, false, cond, not, ◌&&◌, ◌||◌, List, [], ◌∷◌, ◌⊎◌, inl, inr, Option, Some, refl, ap, sym, ◌∙◌, subst, arith}
 use Rattle.std.proofs.lemmas.Bool.Decides.{nat_tests}
 use Rattle.ch_delivery.specs.Passage.{Mark, Unopened, Opened, Broken, Ended, Item, Created, Message, Closed, Binding, Unknown, Void, Bound, Entry, Said, Again, Got, Rose, Broke, Came, Fell, Stood, Passage, start, is_there}
-use Rattle.ch_delivery.specs.Moves.{Move, Say, Reconnect, Finish, Rise, Break, Cut, Come, Fall, Read, Stand, put, noted, marked, onto, written, say, reconnect, finish, bound_to, got, handle, read, kept_bound, after, Allowed, run, AllAllowed}
+use Rattle.ch_delivery.specs.Moves.{Move, Say, Reconnect, Finish, Rise, Break, Shut, Cut, Come, Fall, Read, Stand, put, noted, marked, onto, written, say, reconnect, finish, bound_to, got, handle, read, kept_bound, after, Allowed, run, AllAllowed}
 use Rattle.ch_delivery.specs.Log.{gots, meant, stood, has_risen, up_at, hears, Lawful}
 use Rattle.ch_delivery.specs.Invariant.{IsReached}
 use Rattle.ch_delivery.proofs.Ear.{cap}
 use Rattle.ch_delivery.proofs.Known.{in_order}
 use Rattle.ch_delivery.proofs.Links.{same_number, self_number, put_here, put_there}
 use Rattle.ch_delivery.proofs.Pairs.{Ordered, Ahead, say_pair, reconnect_pair, finish_pair, start_pair}
-use Rattle.ch_delivery.proofs.Sockets.{next_before, read_pair, cut_pair, fall_pair, break_pair, stand_pair, rise_pair, come_pair}
-use Rattle.ch_delivery.proofs.Counts.{CountsOf, said_counts, again_counts, finish_counts, got_counts, apart_counts, broke_counts, next_mark, meant_next, Sent, AllSent, sent_append, all_more}
+use Rattle.ch_delivery.proofs.Sockets.{next_before, read_pair, cut_pair, fall_pair, break_pair, shut_pair, stand_pair, rise_pair, come_pair}
+use Rattle.ch_delivery.proofs.Counts.{CountsOf, said_counts, again_counts, finish_counts, finish_own, got_counts, apart_counts, broke_counts, next_mark, meant_next, Sent, AllSent, sent_append, all_more}
 
 -- all that is on the way was said before its epoch broke
 pub record Sents (l : List Entry) (flight : ℕ → List Item) (waits : List Item) : Type 0 where
@@ -353,6 +353,17 @@ account_kept Break p is v = let s = v.account in record {
 } where
   clash : false ≡ true → ⊥
   clash h = cc
+account_kept Shut p is v = let s = v.account in record {
+  counts = λ c. finish_own (p.named c) c (p.mark c) (p.epoch c) (p.index c) p.log (s.counts c);
+  sents = record { flown = s.sents.flown; held = tt };
+  ahead = s.ahead;
+  linked = record { written = s.linked.written; risen = λ h. absurd (clash h); hearing = s.linked.hearing };
+  lively = s.lively;
+  who = s.who;
+  lawful = s.lawful;
+} where
+  clash : false ≡ true → ⊥
+  clash h = cc
 account_kept (Cut i) p is v = cut_account i p v.account
 account_kept (Come i) p is v = let s = v.account in record {
   counts = λ c. apart_counts (p.named c) c (Came i) (p.mark c) (p.epoch c) (p.index c) p.log tt (s.counts c);
@@ -400,6 +411,7 @@ pair_kept (Reconnect d) p is v c = reconnect_pair c d p (p.mark d) refl (v.pairs
 pair_kept (Finish d) p is v c = finish_pair c d p (p.mark d) refl (v.pairs c)
 pair_kept (Rise i) p is v c = rise_pair c p (v.pairs c) v.account.ahead i is.0 is.1
 pair_kept Break p is v c = break_pair c p (v.pairs c)
+pair_kept Shut p is v c = shut_pair c p (v.pairs c)
 pair_kept (Cut i) p is v c = cut_pair c p (v.pairs c) i
 pair_kept (Come i) p is v c = come_pair c p (v.pairs c) v.account.ahead i is
 pair_kept Fall p is v c = fall_pair c p (v.pairs c)

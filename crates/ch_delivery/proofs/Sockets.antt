@@ -1,13 +1,13 @@
 -- What happens to sockets, and what the receiving node does, keeps each pair heard in order.
-use Rattle.std.proofs.Common.{◌≡◌, ◌<◌, ◌≤◌, ℕ, nat_eq, Bool, true, false, cond, ◌&&◌, List, [], ◌∷◌, Option, refl, ap, sym, ◌∙◌, subst, arith}
+use Rattle.std.proofs.Common.{◌≡◌, suc, ◌<◌, ◌≤◌, ℕ, nat_eq, Bool, true, false, cond, ◌&&◌, List, [], ◌∷◌, Option, refl, ap, sym, ◌∙◌, subst, arith}
 use Rattle.std.proofs.lemmas.Bool.Decides.{nat_tests}
 use lib.Dec.{leb}
 use Rattle.ch_delivery.specs.Passage.{Mark, Unopened, Opened, Broken, Ended, Item, Created, Message, Closed, Binding, Unknown, Void, Bound, Entry, Got, Passage, is_there, is_bound, is_known}
-use Rattle.ch_delivery.specs.Moves.{Rise, Break, Cut, Come, Fall, Stand, put, onto, mark_lost, epoch_lost, index_lost, bound_to, got, handle, read, kept_bound, after}
+use Rattle.ch_delivery.specs.Moves.{Rise, Break, Shut, Cut, Come, Fall, Stand, put, onto, mark_lost, epoch_lost, index_lost, bound_to, got, handle, read, kept_bound, after}
 use Rattle.ch_delivery.specs.Log.{gots}
-use Rattle.ch_delivery.proofs.Ear.{Ear, Idle, Before, Le, hear, heard, heard_before, heard_mono, quit, quit_before, tail, cap, tail_cap}
+use Rattle.ch_delivery.proofs.Ear.{Ear, Idle, Before, Le, hear, heard, heard_before, heard_mono, le_self, quit, quit_before, tail, cap, tail_cap}
 use Rattle.ch_delivery.proofs.Known.{Known, Tamer, known_ext, quit_known, known_created, known_closed, known_message, known_dropped}
-use Rattle.ch_delivery.proofs.Links.{same_number, self_number, put_here, put_there, Links, lowered, broke, risen, risen_keeps, come_keeps}
+use Rattle.ch_delivery.proofs.Links.{same_number, self_number, put_here, put_there, Links, lowered, broke, retold, risen, risen_keeps, come_keeps}
 use Rattle.ch_delivery.proofs.Pairs.{ends, LinksOf, Ordered, Ahead}
 
 first : (b : Bool) (r s : Ear) (f : ℕ) → b ≡ true → Before (cond b r s) f → Before r f
@@ -143,6 +143,21 @@ module _ (c : ℕ) (p : Passage) (s : Ordered c p) where
     cap_lost false Opened e = refl
     cap_lost n Broken e = refl
     cap_lost n Ended e = refl
+
+  pub shut_pair : Ordered c (after Shut p)
+  shut_pair = record {
+    ear = s.ear;
+    floor = s.floor;
+    base = Top;
+    known = s.known;
+    links = retold c p.on p.at s.floor Top (Idle Top) (Idle (suc (p.epoch c))) Top (suc (p.epoch c)) (top_next (p.mark c) (p.epoch c)) (le_self (Idle (suc (p.epoch c)))) [] false (p.cut p.on) here (top_next (p.mark c) (p.epoch c))
+        (broke c p.waits p.up p.on p.at (p.cut p.on) here s.floor s.base (tail (p.mark c) (p.epoch c) (p.index c)) Top s.links);
+  } where
+    top_next : (m : Mark) (e : ℕ) → cap m e ≤ suc e
+    top_next Unopened e = omega arith
+    top_next Opened e = omega arith
+    top_next Broken e = omega arith
+    top_next Ended e = omega arith
 
   pub stand_pair : (f : ℕ → Option ℕ) → Ordered c (after (Stand f) p)
   stand_pair f = record {

@@ -4,7 +4,7 @@ use Rattle.ch_delivery.specs.Passage.{Mark, Unopened, Opened, Broken, Ended, Ite
 
 -- One event at one of the two nodes, or on the way.
 --   Say: the pair's process says a message. Reconnect: it reconnects the pair. Finish: it is over. Rise: the sending node
---   comes up on the socket. Break: its link fails. Cut: what is on the socket is lost, and what will be. Come: the
+--   comes up on the socket. Break: its link fails. Shut: it is shut, with all its processes. Cut: what is on the socket is lost, and what will be. Come: the
 --   receiving node comes up on the socket. Fall: its link fails. Read: it handles the first item there. Stand: processes
 --   are made or over there, or names change hands, and from now on these stand for the targets
 pub data Move : Type 0 where
@@ -13,6 +13,7 @@ pub data Move : Type 0 where
   Finish : (c : ℕ) → Move
   Rise : (i : ℕ) → Move
   Break : Move
+  Shut : Move
   Cut : (i : ℕ) → Move
   Come : (i : ℕ) → Move
   Fall : Move
@@ -93,6 +94,10 @@ broken p = noted Broke (record p {
   index = λ c. index_lost (p.named c) (p.mark c) (p.index c);
 })
 
+-- the sending node is shut: what waits is dropped, and nothing is said any more
+abbrev pub shut : Passage → Passage
+shut p = record p { up = false; waits = []; mark = λ c. Ended }
+
 -- ---- what the receiving node reads
 
 -- a connection is bound so
@@ -135,6 +140,7 @@ after (Reconnect c) p = reconnect (p.mark c) c p
 after (Finish c) p = finish (p.mark c) c p
 after (Rise i) p = noted (Rose i) (record p { up = true; on = i; flight = put i (onto (p.cut i) [] p.waits) p.flight; waits = [] })
 after Break p = broken p
+after Shut p = shut p
 after (Cut i) p = record p { cut = put i true p.cut; flight = put i [] p.flight }
 after (Come i) p = noted (Came i) (record p { at = i; bound = λ c e. Unknown })
 after Fall p = noted Fell (record p { cut = put p.at true p.cut; flight = put p.at [] p.flight; bound = λ c e. Unknown })
