@@ -1,0 +1,5 @@
+pub mod Scene
+pub mod Sending
+pub mod Receiving
+pub mod View
+pub mod Sends
