@@ -1,2 +1,4 @@
 pub mod Keys
 pub mod Hosts
+pub mod Alike
+pub mod Says

@@ -40,7 +40,7 @@ pub record SaysOnOpen (names : List Name) (scene : Scene) (c : ℕ) (name : Name
   pub down : is_up (link_of scene.from).state ≡ false
   pub given : id_of (link_of scene.from).given conn ≡ Some id
   pub used : use_at scene.given id ≡ Some (record { pair = c; epoch = (pair_at scene.from.node name).epoch })
-  pub short : short_enough (payload_of name.to said) ≡ Ok (payload_of name.to said)
+  pub short : short_enough (payload_of (pair_at scene.from.node name).to said) ≡ Ok (payload_of (pair_at scene.from.node name).to said)
   pub room : has_room (link_of scene.from) (weight_at (pair_at scene.from.node name)) ≡ Ok (link_of scene.from)
   pub dials : nat_lt scene.from.host.dials most_dials ≡ true
 
@@ -57,5 +57,5 @@ pub record IsSaid (names : List Name) (scene : Scene) (c : ℕ) (name : Name) (c
   pub steps : List Step
   pub host : HostState
   pub node_says : say scene.from.node (pair_at scene.from.node name) said ≡ Ok (acts_of scene.from.node (pair_at scene.from.node name) conn said, keeping scene.from.node (with_said (pair_at scene.from.node name)))
-  pub host_takes : host_send scene.from.host scene.from.end conn (payload_of name.to said) (weight_at (pair_at scene.from.node name)) ≡ Ok (steps, host)
+  pub host_takes : host_send scene.from.host scene.from.end conn (payload_of (pair_at scene.from.node name).to said) (weight_at (pair_at scene.from.node name)) ≡ Ok (steps, host)
   pub seen : view names (said_in scene c (pair_at scene.from.node name) host) ≡ after (Say c) (view names scene)
