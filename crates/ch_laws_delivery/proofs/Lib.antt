@@ -2,3 +2,5 @@ pub mod Keys
 pub mod Hosts
 pub mod Alike
 pub mod Says
+pub mod Mails
+pub mod Gets

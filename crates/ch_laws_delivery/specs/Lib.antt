@@ -3,3 +3,4 @@ pub mod Sending
 pub mod Receiving
 pub mod View
 pub mod Sends
+pub mod Receipts

@@ -11,9 +11,18 @@ ghost use Rattle.ch_ident.specs.declared.message.Message.{Message};
 ghost use Rattle.ch_laws_delivery.specs.Scene.{Name, Scene};
 ghost use Rattle.ch_laws_delivery.specs.View.{AreApart};
 ghost use Rattle.ch_laws_delivery.specs.Sends.{SaysOnOpen, IsSaid};
+ghost use Rattle.ch_laws_delivery.specs.Receipts.{Reading, ReadsFirst, IsGot};
+ghost use Rattle.ch_delivery.specs.Passage.{Item};
 
 /// A message that a process says on an open connection, while the link isn't up, waits behind the others: the node tells
 /// it and puts it, the host keeps it and dials where nobody does, and what is seen then is the passage after the move.
 pub fn said_while_down()
     ensures { (names : List Name) → AreApart names → (scene : Scene) (c : ℕ) (name : Name) (conn id : ℕ) (said : Message) → SaysOnOpen names scene c name conn id said → IsSaid names scene c name conn said }
+{}
+
+/// A message that is read first on the socket that the receiving node is up on, for a process that lives there, is got:
+/// the host tells its node, the node puts it into the mailbox and tells that it is got, and what is seen then is the
+/// passage after the move.
+pub fn read_by_a_process()
+    ensures { (names : List Name) (scene : Scene) (name : Name) (rest : List Item) (r : Reading) → ReadsFirst names scene name rest r → IsGot names scene rest r }
 {}
