@@ -24,9 +24,9 @@ pub fn in_order_and_once()
 {}
 
 /// All that was said is got, where nothing troubles: once both nodes are up on one socket with nothing unread there, all
-/// messages of an epoch were got whose target was there from the first of them on, and in which the link didn't break
-/// since, also if the sender has reconnected or is over meanwhile. And whatever happened before, so were all of a pair's
-/// present epoch, if its connection leads to its target.
+/// messages of an epoch were got whose target was there from the first of them on, if the sending node's link didn't break
+/// since and the node wasn't shut, also if the sender has reconnected or is over meanwhile. And whatever happened before,
+/// so were all of a pair's present epoch, if its connection leads to its target.
 pub fn all_that_was_said()
     ensures owed { (named : ℕ → Bool) (moves : List Move) → AllAllowed moves (start named) → (c e : ℕ) → is_owed c e moves (start named) false ≡ true
         → AllGot c e (run moves (start named)) }
