@@ -1,6 +1,6 @@
 -- Short runs that are computed.
 use Rattle.std.specs.Prelude.{ℕ, nat_eq, Bool, false, List, [], ◌∷◌, Option, Some, None}
-use Rattle.ch_delivery.specs.Moves.{Move, Say, Reconnect, Finish, Rise, Break, Shut, Come, Fall, Read, Stand}
+use Rattle.ch_delivery.specs.Moves.{Move, Say, Reconnect, Finish, Rise, Break, Come, Fall, Read, Stand}
 
 -- every target is a process or a port
 abbrev pub no_names : ℕ → Bool

@@ -1,7 +1,7 @@
 -- Wrong rules, and short runs by which each goes against a law.
 use Rattle.std.specs.Prelude.{ℕ, suc, false, List, [], ◌∷◌}
 use Rattle.ch_delivery.specs.Passage.{Mark, Broken, Item, Created, Message, Said, Passage}
-use Rattle.ch_delivery.specs.Moves.{Move, Say, Reconnect, Rise, Break, Shut, Cut, Come, Fall, Read, Stand, Rules, put, noted, marked, write, say, mark_lost, broken, got, handle, read, after}
+use Rattle.ch_delivery.specs.Moves.{Move, Say, Reconnect, Rise, Break, Cut, Come, Fall, Read, Stand, Rules, put, noted, marked, write, say, mark_lost, broken, got, handle, read, after}
 use Rattle.ch_delivery.specs.Rows.{seven, nobody}
 
 -- a message that is read is got twice

@@ -1,5 +1,5 @@
 -- A message that is read for a process that lives is got, as the passage's move says.
-use Rattle.std.specs.Prelude.{◌≡◌, ℕ, ◌+◌, ◌-◌, Bool, true, false, not, ◌&&◌, ◌==◌, List, [], ◌∷◌, find, position, nat_lt, slice_get, Option, Some, None, Result, Ok, Err, if◌then◌else◌}
+use Rattle.std.specs.Prelude.{◌≡◌, ℕ, ◌+◌, ◌-◌, Bool, true, false, not, ◌&&◌, ◌==◌, List, [], ◌∷◌, find, nat_lt, slice_get, Option, Some, None, Result, Ok, Err, if◌then◌else◌}
 use Rattle.std.specs.Option.{option_map_or}
 use Rattle.std.proofs.Common.{refl, ap, sym, ◌∙◌, arith}
 use Rattle.std.proofs.lemmas.Bool.Decides.{nat_tests}
@@ -37,7 +37,7 @@ use Rattle.ch_delivery.specs.Passage.{Item, Binding, Void, Bound, Unknown, Got, 
 use Rattle.ch_delivery.specs.Moves as moves
 use Rattle.ch_delivery.specs.Moves.{Read, put, noted, after}
 use Rattle.ch_laws_delivery.specs.Scene.{Name, Use, Party, Way, Scene, link_of}
-use Rattle.ch_laws_delivery.specs.Receiving.{if_living, stands_for, standing_for, binding_of, of_arrived, of_conn, of_created, is_for, at_place, bound_of}
+use Rattle.ch_laws_delivery.specs.Receiving.{if_living, stands_for, standing_for, binding_of, of_arrived, of_conn, of_created, place_for, at_place, bound_of}
 use Rattle.ch_laws_delivery.specs.View.{view}
 use Rattle.ch_laws_delivery.specs.Receipts.{Reading, ReadsFirst, node_after, got_in, IsGot}
 use Rattle.ch_laws_delivery.proofs.Mails.{Unmoved, put_unmoved}
@@ -138,7 +138,7 @@ module _ (names : List Name) (scene : Scene) (name : Name) (rest : List Item) (r
 
   seen_now : view names (got_in scene rest r) ≡ after Read V
   seen_now = sending_alike (view names (got_in scene rest r)) (noted (Got r.pair r.epoch r.index (V.stands r.pair)) Rest) refl (λ d. refl) (λ d. refl) (λ d. refl) refl refl refl refl refl refl
-      (λ d e. place_same N r.mail same Table (position (is_for d e) scene.created)) (λ d. standing_same N r.mail same (slice_get names d))
+      (λ d e. place_same N r.mail same Table (place_for d e scene.created)) (λ d. standing_same N r.mail same (slice_get names d))
       (ap (λ (o : Option ℕ). Got r.pair r.epoch r.index o ∷ scene.log) (sym stands_is))
       ∙ sym moved
 

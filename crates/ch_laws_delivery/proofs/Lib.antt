@@ -4,3 +4,4 @@ pub mod Alike
 pub mod Says
 pub mod Mails
 pub mod Gets
+pub mod Opens

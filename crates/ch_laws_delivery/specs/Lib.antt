@@ -4,3 +4,4 @@ pub mod Receiving
 pub mod View
 pub mod Sends
 pub mod Receipts
+pub mod Openings

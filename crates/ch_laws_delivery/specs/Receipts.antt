@@ -1,5 +1,5 @@
 -- A message that is read on the socket that the receiving node is up on, for a process that lives there.
-use Rattle.std.specs.Prelude.{◌≡◌, ℕ, ◌+◌, Bool, true, ◌==◌, List, [], ◌∷◌, find, position, slice_get, Option, Some, None, Result, Ok}
+use Rattle.std.specs.Prelude.{◌≡◌, ℕ, ◌+◌, Bool, true, ◌==◌, List, [], ◌∷◌, find, slice_get, Option, Some, None, Result, Ok}
 use Rattle.ch_base.specs.declared.event.Event.TheVariants as events
 use Rattle.ch_ident.specs.declared.identifier.ProcessId.{ProcessId}
 use Rattle.ch_ident.specs.declared.message.Message.{Message}
@@ -23,7 +23,7 @@ use Rattle.ch_delivery.specs.Passage as items
 use Rattle.ch_delivery.specs.Passage.{Item, Got}
 use Rattle.ch_delivery.specs.Moves.{Read, put, after}
 use Rattle.ch_laws_delivery.specs.Scene.{Name, Use, Party, Way, Scene, link_of}
-use Rattle.ch_laws_delivery.specs.Receiving.{is_for}
+use Rattle.ch_laws_delivery.specs.Receiving.{place_for}
 use Rattle.ch_laws_delivery.specs.View.{view}
 
 -- what is read: the pair, its epoch, the message's index and payload, its message, the process that it is from and the
@@ -47,7 +47,7 @@ pub record ReadsFirst (names : List Name) (scene : Scene) (name : Name) (rest : 
   pub first : scene.way.flight scene.way.at ≡ items.Message r.pair r.epoch r.index ∷ rest
   pub known : slice_get names r.pair ≡ Some name
   pub target : name.to ≡ targets.Process r.to
-  pub used : position (is_for r.pair r.epoch) scene.created ≡ Some r.place
+  pub used : place_for r.pair r.epoch scene.created ≡ Some r.place
   pub created : slice_get (link_of scene.to).created r.place ≡ Some (opened r.conn)
   pub arrival : find (λ arrived. arrived.conn == r.conn) scene.to.node.arrived ≡ Some r.arrived
   pub bound : r.arrived.bound ≡ nodes.ToTarget r.from (targets.Process r.to)

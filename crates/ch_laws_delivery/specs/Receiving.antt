@@ -1,5 +1,5 @@
 -- The receiving node as a passage sees it: who stands for a target, and what the node knows of connections.
-use Rattle.std.specs.Prelude.{ℕ, Bool, true, false, ◌&&◌, ◌==◌, List, find, position, slice_get, Option, Some, None, if◌then◌else◌}
+use Rattle.std.specs.Prelude.{ℕ, Bool, true, false, ◌&&◌, suc, ◌==◌, List, [], ◌∷◌, find, slice_get, Option, Some, None, if◌then◌else◌}
 use Rattle.std.specs.Option.{option_map}
 use Rattle.ch_ident.specs.declared.identifier.ProcessId.{ProcessId}
 use Rattle.ch_light.specs.declared.Connection.{Connection}
@@ -57,10 +57,15 @@ abbrev pub is_for : ℕ → ℕ → Option Use → Bool
 is_for c e None = false
 is_for c e (Some u) = u.pair == c && u.epoch == e
 
+-- the place of the id that is for them, among those from the first on
+abbrev pub place_for : ℕ → ℕ → List (Option Use) → Option ℕ
+place_for c e [] = None
+place_for c e (u ∷ rest) = if is_for c e u then Some 0 else option_map suc (place_for c e rest)
+
 abbrev pub at_place : NodeState → List Connection → Option ℕ → Binding
 at_place node created None = Unknown
 at_place node created (Some place) = of_created node (slice_get created place)
 
 -- what the node knows of the connection of a pair and epoch, by what the ids are for
 abbrev pub bound_of : NodeState → List Connection → List (Option Use) → ℕ → ℕ → Binding
-bound_of node created uses c e = at_place node created (position (is_for c e) uses)
+bound_of node created uses c e = at_place node created (place_for c e uses)
