@@ -103,3 +103,139 @@ module _ (conn : ℕ) (bound : nodes.Bound) where
         by_test : (b : Bool) → (y.conn == m) ≡ b → cond b (Some (rebound conn bound y)) (find (λ arrived. arrived.conn == m) ys) ≡ cond b (Some y) (find (λ arrived. arrived.conn == m) ys)
         by_test false is = refl
         by_test true is = ap (λ b. Some (if b then record y { bound = bound } else y)) (ap (λ (z : ℕ). z == conn) (eqb-true y.conn m is) ∙ off)
+
+-- ---- the node
+
+module _ (n : NodeState) (conn : ℕ) (b : nodes.Bound) where
+  abbrev Now : NodeState
+  Now = bind n conn b
+
+  stands_now : (to : Target) → stands_for Now to ≡ stands_for n to
+  unfolding bind is_living life_here is_own is_port_here standing
+  stands_now (targets.Process p) = refl
+  stands_now (targets.Port q) = refl
+  stands_now (targets.Named at name) = refl
+
+  standing_now : (o : Option Name) → standing_for Now o ≡ standing_for n o
+  standing_now None = refl
+  standing_now (Some name) = stands_now name.to
+
+  binding_now : (x : nodes.Bound) → binding_of Now x ≡ binding_of n x
+  binding_now nodes.Unread = refl
+  binding_now nodes.Void = refl
+  binding_now nodes.FromNode = refl
+  binding_now (nodes.ToNames from) = refl
+  binding_now (nodes.ToTarget from to) = ap (λ (o : Option ℕ). if is_some o then Bound else Void) (stands_now to)
+
+  arrived_now : (o : Option Arrived) → of_arrived Now o ≡ of_arrived n o
+  arrived_now None = refl
+  arrived_now (Some arrived) = binding_now arrived.bound
+
+  -- the connection that is bound
+  conn_bound : (arrived : Arrived) → find (λ arrived. arrived.conn == conn) n.arrived ≡ Some arrived → of_conn Now conn ≡ binding_of n b
+  unfolding bind
+  conn_bound arrived h = ap (of_arrived Now) (found_bound conn b n.arrived arrived h) ∙ binding_now b
+
+  -- every other
+  conn_other : (m : ℕ) → (m == conn) ≡ false → of_conn Now m ≡ of_conn n m
+  unfolding bind
+  conn_other m off = ap (of_arrived Now) (other_found conn b m off n.arrived) ∙ arrived_now (find (λ arrived. arrived.conn == m) n.arrived)
+
+-- ---- the opening
+
+module _ (names : List Name) (scene : Scene) (name : Name) (rest : List Item) (o : Opening) (h : OpensFirst names scene name rest o) where
+  abbrev N : NodeState
+  N = scene.to.node
+
+  abbrev V : Passage
+  V = view names scene
+
+  abbrev Table : List Connection
+  Table = (link_of scene.to).created
+
+  abbrev B : Binding
+  B = bound_to (is_there (V.named o.pair) (V.stands o.pair))
+
+  by_message : bound_by N o.arrived.peer (message_of o.payload) ≡ bound_to_process N o
+  unfolding node_of bound_between
+  by_message = ap (bound_by N o.arrived.peer) h.read
+      ∙ ap (λ x. if x && is_here N o.to.node then bound_between N (ends.Process o.from) (ends.Process o.to) else nodes.Void) h.of_peer
+      ∙ ap (λ x. if x then bound_between N (ends.Process o.from) (ends.Process o.to) else nodes.Void) h.to_here
+
+  binds : node_event N (events.Received o.conn o.payload) ≡ Ok ([], node_after N o)
+  unfolding node_event received
+  binds = ap (received_on N o.payload) h.arrival ∙ ap (received_as N o.arrived o.payload) h.unread ∙ ap (λ (x : nodes.Bound). silent (bind N o.arrived.conn x)) by_message
+
+  number : o.arrived.conn ≡ o.conn
+  number = conn_is o.conn N.arrived o.arrived h.arrival
+
+  -- what the connection is for, as the passage has it
+  binding_is : binding_of N (bound_to_process N o) ≡ B
+  binding_is = by_living (is_living N o.to) refl ∙ sym (ap (λ (x : Option Name). bound_to (is_there (named x) (standing_for N x))) h.known ∙ ap (λ (to : Target). bound_to (is_there (is_named to) (stands_for N to))) h.target) where
+    by_living : (x : Bool) → is_living N o.to ≡ x → binding_of N (if x then nodes.ToTarget o.from (targets.Process o.to) else nodes.Void) ≡ bound_to (is_there false (if x then Some o.to.counter else None))
+    by_living true is = ap (λ x. if is_some (if x then Some o.to.counter else None) then Bound else Void) is
+    by_living false is = refl
+
+  own_now : bound_of (node_after N o) Table scene.created o.pair o.epoch ≡ B
+  own_now = ap (at_place (node_after N o) Table) h.used ∙ ap (of_created (node_after N o)) h.created
+      ∙ ap (of_conn (node_after N o)) (sym number)
+      ∙ conn_bound N o.arrived.conn (bound_to_process N o) o.arrived (ap (λ (m : ℕ). find (λ arrived. arrived.conn == m) N.arrived) number ∙ h.arrival)
+      ∙ binding_is
+
+  -- connections at other places
+  other_now : (d f : ℕ) → (nat_eq d o.pair && nat_eq f o.epoch) ≡ false → bound_of (node_after N o) Table scene.created d f ≡ bound_of N Table scene.created d f
+  other_now d f off = by_place (place_for d f scene.created) refl where
+    both : (d f c e : ℕ) → d ≡ c → f ≡ e → (nat_eq d c && nat_eq f e) ≡ false → ⊥
+    both d f c e p q h = grind (arith, nat_tests)
+
+    same_use : (x y : Use) → Some (Some x) ≡ Some (Some y) → x ≡ y
+    same_use x y h = some_is x y (some_is (Some x) (Some y) h)
+
+    elsewhere : (i : ℕ) → place_for d f scene.created ≡ Some i → i ≡ o.place → ⊥
+    elsewhere i is e = let u = same_use (record { pair = d; epoch = f }) (record { pair = o.pair; epoch = o.epoch })
+        (sym (place_is d f scene.created i is) ∙ ap (slice_get scene.created) e ∙ place_is o.pair o.epoch scene.created o.place h.used) in
+        both d f o.pair o.epoch (ap (λ (z : Use). z.pair) u) (ap (λ (z : Use). z.epoch) u) off
+
+    apart : (m : ℕ) → (m ≡ o.conn → ⊥) → (m == o.arrived.conn) ≡ false
+    apart m not = by_test (m == o.arrived.conn) refl where
+      by_test : (x : Bool) → (m == o.arrived.conn) ≡ x → x ≡ false
+      by_test false is = refl
+      by_test true is = absurd (not (eqb-true m o.arrived.conn is ∙ number))
+
+    by_open : (i : ℕ) (known : Connection) → place_for d f scene.created ≡ Some i → slice_get Table i ≡ Some known → (x : Bool) → known.is_open ≡ x → (if x then of_conn (node_after N o) known.number else Unknown) ≡ (if x then of_conn N known.number else Unknown)
+    by_open i known is there false opens = refl
+    by_open i known is there true opens = conn_other N o.arrived.conn (bound_to_process N o) known.number (apart known.number (λ q. elsewhere i is (h.alone i known there opens q)))
+
+    by_known : (i : ℕ) → place_for d f scene.created ≡ Some i → (x : Option Connection) → slice_get Table i ≡ x → of_created (node_after N o) x ≡ of_created N x
+    by_known i is None there = refl
+    by_known i is (Some known) there = by_open i known is there known.is_open refl
+
+    by_place : (x : Option ℕ) → place_for d f scene.created ≡ x → at_place (node_after N o) Table x ≡ at_place N Table x
+    by_place None is = refl
+    by_place (Some i) is = by_known i is (slice_get Table i) refl
+
+  bound_now : (d f : ℕ) → bound_of (node_after N o) Table scene.created d f ≡ cond (nat_eq d o.pair && nat_eq f o.epoch) B (V.bound d f)
+  bound_now d f = by_test (nat_eq d o.pair && nat_eq f o.epoch) refl (one d f o.pair o.epoch) (two d f o.pair o.epoch) where
+    one : (d f c e : ℕ) → (nat_eq d c && nat_eq f e) ≡ true → d ≡ c
+    one d f c e h = grind (arith, nat_tests)
+
+    two : (d f c e : ℕ) → (nat_eq d c && nat_eq f e) ≡ true → f ≡ e
+    two d f c e h = grind (arith, nat_tests)
+
+    by_test : (x : Bool) → (nat_eq d o.pair && nat_eq f o.epoch) ≡ x → (x ≡ true → d ≡ o.pair) → (x ≡ true → f ≡ o.epoch) → bound_of (node_after N o) Table scene.created d f ≡ cond x B (V.bound d f)
+    by_test true is p q = ap (λ (z : ℕ). bound_of (node_after N o) Table scene.created z f) (p refl) ∙ ap (λ (z : ℕ). bound_of (node_after N o) Table scene.created o.pair z) (q refl) ∙ own_now
+    by_test false is p q = other_now d f is
+
+  abbrev Rest : Passage
+  Rest = record V { flight = put scene.way.at rest scene.way.flight }
+
+  moved : after Read V ≡ moves.bind o.pair o.epoch B Rest
+  moved = ap (λ (w : List Item). moves.read w V) h.first
+
+  seen_now : view names (opened_in scene rest o) ≡ after Read V
+  seen_now = sending_alike (view names (opened_in scene rest o)) (moves.bind o.pair o.epoch B Rest) refl (λ d. refl) (λ d. refl) (λ d. refl) refl refl refl refl refl refl bound_now
+      (λ d. standing_now N o.arrived.conn (bound_to_process N o) (slice_get names d)) refl
+      ∙ sym moved
+
+  pub is_opened : IsOpened names scene rest o
+  is_opened = record { node_binds = binds; seen = seen_now }

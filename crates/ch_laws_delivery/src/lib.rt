@@ -12,6 +12,7 @@ ghost use Rattle.ch_laws_delivery.specs.Scene.{Name, Scene};
 ghost use Rattle.ch_laws_delivery.specs.View.{AreApart};
 ghost use Rattle.ch_laws_delivery.specs.Sends.{SaysOnOpen, IsSaid};
 ghost use Rattle.ch_laws_delivery.specs.Receipts.{Reading, ReadsFirst, IsGot};
+ghost use Rattle.ch_laws_delivery.specs.Openings.{Opening, OpensFirst, IsOpened};
 ghost use Rattle.ch_delivery.specs.Passage.{Item};
 
 /// A message that a process says on an open connection, while the link isn't up, waits behind the others: the node tells
@@ -25,4 +26,10 @@ pub fn said_while_down()
 /// passage after the move.
 pub fn read_by_a_process()
     ensures { (names : List Name) (scene : Scene) (name : Name) (rest : List Item) (r : Reading) → ReadsFirst names scene name rest r → IsGot names scene rest r }
+{}
+
+/// An opening message that is read first there, from a process of the peer to a process of this node, binds its
+/// connection: the node learns what it is for, says nothing, and what is seen then is the passage after the move.
+pub fn opened_by_a_process()
+    ensures { (names : List Name) (scene : Scene) (name : Name) (rest : List Item) (o : Opening) → OpensFirst names scene name rest o → IsOpened names scene rest o }
 {}
