@@ -86,7 +86,7 @@ target_is (targets.Named at name) (targets.Port q) h = wrong h
 
 -- ---- links
 
-link_test : (link : Link) → is_link link.end link.peer link ≡ true
+pub link_test : (link : Link) → is_link link.end link.peer link ≡ true
 link_test link = ap (λ b. b && same_node link.peer link.peer) (equal_numbers link.end) ∙ node_self link.peer
 
 link_stored : (link : Link) (links : List Link) → find (is_link link.end link.peer) (store_link link links) ≡ Some link

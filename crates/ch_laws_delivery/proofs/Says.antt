@@ -107,7 +107,7 @@ module _ (names : List Name) (apart : AreApart names) (scene : Scene) (c : ℕ) 
   V = view names scene
 
   taken : Takes (frames.Data id (payload_of P.to said), weight_at P) (link_of scene.from) scene.from.host
-  taken = takes (frames.Data id (payload_of P.to said), weight_at P) (link_of scene.from) scene.from.host h.down h.dials
+  taken = takes (frames.Data id (payload_of P.to said), weight_at P) (link_of scene.from) scene.from.host h.down (λ t. h.dials)
 
   -- the link after it
   link_now : link_with taken.now scene.from.end scene.from.peer ≡ link_with taken.now (link_of scene.from).end (link_of scene.from).peer
@@ -162,13 +162,13 @@ module _ (names : List Name) (apart : AreApart names) (scene : Scene) (c : ℕ) 
       ∙ ap (λ (z : ℕ). items.Message c z P.index ∷ []) (sym epoch_is) ∙ ap (λ (z : ℕ). items.Message c (V.epoch c) z ∷ []) (sym index_is)
 
   waiting : items_of scene.given (link_with taken.now scene.from.end scene.from.peer).waits ≡ V.waits ++ Items
-  waiting = ap (λ (l : Link). items_of scene.given l.waits) link_now ∙ ap (items_of scene.given) taken.waits
+  waiting = ap (λ (l : Link). items_of scene.given l.waits) link_now ∙ ap (λ (l : Link). items_of scene.given l.waits) taken.kept
       ∙ flat_map-append (λ item. items_in scene.given item.0 (said_of item.1)) (link_of scene.from).waits ((frames.Data id (payload_of P.to said), weight_at P) ∷ [])
       ∙ ap (λ (z : List Item). V.waits ++ z) one_item
 
   seen_now : view names (said_in scene c P taken.now) ≡ after (Say c) V
   seen_now = sending_alike (view names (said_in scene c P taken.now)) (written false Items Told) refl marks epochs indexes waiting
-      (ap (λ (l : Link). is_up l.state) link_now ∙ taken.down ∙ sym h.down) refl refl refl refl (λ d e. refl) (λ d. refl)
+      (ap (λ (l : Link). is_up l.state) (link_now ∙ taken.kept) ∙ taken.down ∙ sym h.down) refl refl refl refl (λ d e. refl) (λ d. refl)
       (ap (λ (z : ℕ). Said c z P.index ∷ scene.log) (sym epoch_is) ∙ ap (λ (z : ℕ). Said c (V.epoch c) z ∷ scene.log) (sym index_is))
       ∙ sym moved
 
