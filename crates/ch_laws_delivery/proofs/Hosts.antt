@@ -122,24 +122,24 @@ sends host end conn payload weight link id found short room given =
 -- ---- which link carries a connection
 
 -- no link before the one with this key carries the connection
-abbrev pub Alone : ℕ → ℕ → Link → List Link → Type 0
-Alone end conn link [] = Unit {0}
-Alone end conn link (known ∷ rest) = is_link link.end link.peer known ≡ false → (carries end conn known ≡ false) × Alone end conn link rest
+abbrev pub Alone : ℕ → ℕ → ℕ → AddressValue → List Link → Type 0
+Alone end conn key peer [] = Unit {0}
+Alone end conn key peer (known ∷ rest) = is_link key peer known ≡ false → (carries end conn known ≡ false) × Alone end conn key peer rest
 
 -- where none carries it
-pub none_alone : (end conn : ℕ) (link : Link) (links : List Link) → find (carries end conn) links ≡ None → Alone end conn link links
+pub none_alone : (end conn : ℕ) (link : Link) (links : List Link) → find (carries end conn) links ≡ None → Alone end conn link.end link.peer links
 none_alone end conn link [] h = tt
 none_alone end conn link (known ∷ rest) h = λ off. by_test (carries end conn known) refl h (λ q. none_alone end conn link rest q) where
   some_none : (x : Link) → Some x ≡ None → ⊥
   some_none x h = cc
 
-  by_test : (b : Bool) → carries end conn known ≡ b → cond b (Some known) (find (carries end conn) rest) ≡ None → (find (carries end conn) rest ≡ None → Alone end conn link rest) → (carries end conn known ≡ false) × Alone end conn link rest
+  by_test : (b : Bool) → carries end conn known ≡ b → cond b (Some known) (find (carries end conn) rest) ≡ None → (find (carries end conn) rest ≡ None → Alone end conn link.end link.peer rest) → (carries end conn known ≡ false) × Alone end conn link.end link.peer rest
   by_test true is q f = absurd (some_none known q)
   by_test false is q f = (is, f q)
 
 module _ (end conn : ℕ) (link : Link) where
   -- a link with this key is kept
-  pub kept_alone : (links : List Link) → Alone end conn link links → Alone end conn link (store_link link links)
+  pub kept_alone : (links : List Link) → Alone end conn link.end link.peer links → Alone end conn link.end link.peer (store_link link links)
   kept_alone [] a = λ off. absurd (clash (sym off ∙ link_test link)) where
     clash : false ≡ true → ⊥
     clash h = cc
@@ -147,14 +147,14 @@ module _ (end conn : ℕ) (link : Link) where
     clash : false ≡ true → ⊥
     clash h = cc
 
-    by_test : (b : Bool) → is_link link.end link.peer known ≡ b → (Alone end conn link rest → Alone end conn link (store_link link rest)) → Alone end conn link (cond b (link ∷ rest) (known ∷ store_link link rest))
+    by_test : (b : Bool) → is_link link.end link.peer known ≡ b → (Alone end conn link.end link.peer rest → Alone end conn link.end link.peer (store_link link rest)) → Alone end conn link.end link.peer (cond b (link ∷ rest) (known ∷ store_link link rest))
     by_test true is f = λ off. absurd (clash (sym off ∙ link_test link))
     by_test false is f = λ off. ((a is).0, f (a is).1)
 
   -- and is found, if it carries the connection
-  pub alone_found : carries end conn link ≡ true → (links : List Link) → Alone end conn link links → find (carries end conn) (store_link link links) ≡ Some link
+  pub alone_found : carries end conn link ≡ true → (links : List Link) → Alone end conn link.end link.peer links → find (carries end conn) (store_link link links) ≡ Some link
   alone_found own [] a = ap (λ b. cond b (Some link) None) own
   alone_found own (known ∷ rest) a = by_test (is_link link.end link.peer known) refl (λ q. alone_found own rest q) where
-    by_test : (b : Bool) → is_link link.end link.peer known ≡ b → (Alone end conn link rest → find (carries end conn) (store_link link rest) ≡ Some link) → find (carries end conn) (cond b (link ∷ rest) (known ∷ store_link link rest)) ≡ Some link
+    by_test : (b : Bool) → is_link link.end link.peer known ≡ b → (Alone end conn link.end link.peer rest → find (carries end conn) (store_link link rest) ≡ Some link) → find (carries end conn) (cond b (link ∷ rest) (known ∷ store_link link rest)) ≡ Some link
     by_test true is f = ap (λ b. cond b (Some link) (find (carries end conn) rest)) own
     by_test false is f = ap (λ b. cond b (Some known) (find (carries end conn) (store_link link rest))) (a is).0 ∙ f (a is).1

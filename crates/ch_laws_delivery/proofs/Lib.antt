@@ -5,3 +5,4 @@ pub mod Says
 pub mod Mails
 pub mod Gets
 pub mod Opens
+pub mod SaysFirst

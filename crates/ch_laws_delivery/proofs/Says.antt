@@ -54,18 +54,18 @@ some_is : {X : Type 0} (x y : X) → Some x ≡ Some y → x ≡ y
 some_is {X = X} x y h = ap {A = Option X} {B = X} (λ o. elim o [ Some z ↦ z | None ↦ x ]) h
 
 module _ (names : List Name) (apart : AreApart names) (n : NodeState) (c : ℕ) (name : Name) (known : slice_get names c ≡ Some name) where
-  abbrev One : Pair
+  abbrev pub One : Pair
   One = pair_at n name
 
-  one_by : One.by ≡ name.by
+  pub one_by : One.by ≡ name.by
   one_by = (pair_named n.pairs name.by name.to).0
 
-  one_to : One.to ≡ name.to
+  pub one_to : One.to ≡ name.to
   one_to = (pair_named n.pairs name.by name.to).1
 
   module _ (q : Pair) (by : q.by ≡ name.by) (to : q.to ≡ name.to) where
     -- the pair that is kept is the one of its number
-    own_pair : pair_at (keeping n q) name ≡ q
+    pub own_pair : pair_at (keeping n q) name ≡ q
     own_pair = ap (λ (z : ℕ). pair_of (with_pair q n.pairs) z name.to) (sym by) ∙ ap (λ (z : Target). pair_of (with_pair q n.pairs) q.by z) (sym to) ∙ pair_kept q n.pairs
 
     -- every other number has its pair still
@@ -84,7 +84,7 @@ module _ (names : List Name) (apart : AreApart names) (n : NodeState) (c : ℕ) 
     -- a reading of a pair by its name, which is x for this one
     module _ {X : Type 0} (f : NodeState → Option Name → X) (x : X) (mine : f (keeping n q) (Some name) ≡ x) (none : f (keeping n q) None ≡ f n None)
         (others : (other : Name) → pair_at (keeping n q) other ≡ pair_at n other → f (keeping n q) (Some other) ≡ f n (Some other)) where
-      read_at : (d : ℕ) → f (keeping n q) (slice_get names d) ≡ put c x (λ e. f n (slice_get names e)) d
+      pub read_at : (d : ℕ) → f (keeping n q) (slice_get names d) ≡ put c x (λ e. f n (slice_get names e)) d
       read_at d = by_place (nat_eq d c) refl where
         by_name : (o : Option Name) → slice_get names d ≡ o → nat_eq d c ≡ false → f (keeping n q) o ≡ f n o
         by_name None is off = none

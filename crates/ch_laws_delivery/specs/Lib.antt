@@ -5,3 +5,4 @@ pub mod View
 pub mod Sends
 pub mod Receipts
 pub mod Openings
+pub mod FirstSends

@@ -11,6 +11,7 @@ ghost use Rattle.ch_ident.specs.declared.message.Message.{Message};
 ghost use Rattle.ch_laws_delivery.specs.Scene.{Name, Scene};
 ghost use Rattle.ch_laws_delivery.specs.View.{AreApart};
 ghost use Rattle.ch_laws_delivery.specs.Sends.{SaysOnOpen, IsSaid};
+ghost use Rattle.ch_laws_delivery.specs.FirstSends.{SaysFirst, IsSaidFirst};
 ghost use Rattle.ch_laws_delivery.specs.Receipts.{Reading, ReadsFirst, IsGot};
 ghost use Rattle.ch_laws_delivery.specs.Openings.{Opening, OpensFirst, IsOpened};
 ghost use Rattle.ch_delivery.specs.Passage.{Item};
@@ -19,6 +20,13 @@ ghost use Rattle.ch_delivery.specs.Passage.{Item};
 /// it and puts it, the host keeps it and dials where nobody does, and what is seen then is the passage after the move.
 pub fn said_while_down()
     ensures { (names : List Name) → AreApart names → (scene : Scene) (c : ℕ) (name : Name) (conn id : ℕ) (said : Message) → SaysOnOpen names scene c name conn id said → IsSaid names scene c name conn said }
+{}
+
+/// The first message that a process says in an epoch, while the link isn't up, opens a connection and waits on it: the node
+/// tells it and opens the connection, the host gives that the next id and keeps its opening message and the message, and
+/// what is seen then, where the id is for this pair and epoch, is the passage after the move.
+pub fn said_first_while_down()
+    ensures { (names : List Name) → AreApart names → (scene : Scene) (c : ℕ) (name : Name) (conn : ℕ) (said : Message) → SaysFirst names scene c name conn said → IsSaidFirst names scene c name conn said }
 {}
 
 /// A message that is read first on the socket that the receiving node is up on, for a process that lives there, is got:
