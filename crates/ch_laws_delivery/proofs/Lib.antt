@@ -6,3 +6,4 @@ pub mod Mails
 pub mod Gets
 pub mod Opens
 pub mod SaysFirst
+pub mod Breaks

@@ -6,3 +6,4 @@ pub mod Sends
 pub mod Receipts
 pub mod Openings
 pub mod FirstSends
+pub mod Losses

@@ -6,12 +6,14 @@
 //! of a world is a run of moves, and that all that is asked here of a scene holds in a world, is open.
 #![tactic(auto)]
 
-ghost use Rattle.std.specs.Prelude.{ℕ, List};
+ghost use Rattle.std.specs.Prelude.{ℕ, Bool, List};
+ghost use Rattle.ch_model.specs.NodeState.{Pair};
 ghost use Rattle.ch_ident.specs.declared.message.Message.{Message};
 ghost use Rattle.ch_laws_delivery.specs.Scene.{Name, Scene};
 ghost use Rattle.ch_laws_delivery.specs.View.{AreApart};
 ghost use Rattle.ch_laws_delivery.specs.Sends.{SaysOnOpen, IsSaid};
 ghost use Rattle.ch_laws_delivery.specs.FirstSends.{SaysFirst, IsSaidFirst};
+ghost use Rattle.ch_laws_delivery.specs.Losses.{LosesSocket, IsBroken};
 ghost use Rattle.ch_laws_delivery.specs.Receipts.{Reading, ReadsFirst, IsGot};
 ghost use Rattle.ch_laws_delivery.specs.Openings.{Opening, OpensFirst, IsOpened};
 ghost use Rattle.ch_delivery.specs.Passage.{Item};
@@ -27,6 +29,13 @@ pub fn said_while_down()
 /// what is seen then, where the id is for this pair and epoch, is the passage after the move.
 pub fn said_first_while_down()
     ensures { (names : List Name) → AreApart names → (scene : Scene) (c : ℕ) (name : Name) (conn : ℕ) (said : Message) → SaysFirst names scene c name conn said → IsSaidFirst names scene c name conn said }
+{}
+
+/// A link that is up and loses its socket breaks, where the node watches nothing at the peer: the host ends its end, tells
+/// that the link broke, forgets what waited and all connections, and tells its node; the node breaks its open pairs, and
+/// those with a name go on in their next epoch; and what is seen then is the passage after the move.
+pub fn broken_by_a_loss()
+    ensures { (names : List Name) (scene : Scene) (sock : ℕ) (probed : Bool) (pairs : List Pair) → LosesSocket names scene sock probed pairs → IsBroken names scene sock pairs }
 {}
 
 /// A message that is read first on the socket that the receiving node is up on, for a process that lives there, is got:
