@@ -7,3 +7,4 @@ pub mod Receipts
 pub mod Openings
 pub mod FirstSends
 pub mod Losses
+pub mod Rows

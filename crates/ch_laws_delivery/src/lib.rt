@@ -2,11 +2,11 @@
 //! move.
 //!
 //! No code: definitions of the view, and laws as clauses of empty functions. The whole model stands below, and the
-//! machine with its laws. So far some events of a node and its host are shown to be moves, each apart: that a whole line
+//! machine with its laws. So far five events of a node and its host are shown to be moves, each apart: that a whole line
 //! of a world is a run of moves, and that all that is asked here of a scene holds in a world, is open.
 #![tactic(auto)]
 
-ghost use Rattle.std.specs.Prelude.{ℕ, Bool, List};
+ghost use Rattle.std.specs.Prelude.{ℕ, Bool, false, List, [], ◌∷◌};
 ghost use Rattle.ch_model.specs.NodeState.{Pair};
 ghost use Rattle.ch_ident.specs.declared.message.Message.{Message};
 ghost use Rattle.ch_laws_delivery.specs.Scene.{Name, Scene};
@@ -16,7 +16,10 @@ ghost use Rattle.ch_laws_delivery.specs.FirstSends.{SaysFirst, IsSaidFirst};
 ghost use Rattle.ch_laws_delivery.specs.Losses.{LosesSocket, IsBroken};
 ghost use Rattle.ch_laws_delivery.specs.Receipts.{Reading, ReadsFirst, IsGot};
 ghost use Rattle.ch_laws_delivery.specs.Openings.{Opening, OpensFirst, IsOpened};
-ghost use Rattle.ch_delivery.specs.Passage.{Item};
+ghost use Rattle.ch_delivery.specs.Passage.{Item, Created};
+ghost use Rattle.ch_link.specs.declared.LinkState.TheVariants.{Dialing, Up};
+ghost use Rattle.ch_model.specs.NodeState.{Unread, Broken};
+ghost use Rattle.ch_laws_delivery.specs.Rows.{the_name, the_names, hello, at_start, open_pair, said_once, up_with, message_item, bound_there, the_opening, the_reading};
 
 /// A message that a process says on an open connection, while the link isn't up, waits behind the others: the node tells
 /// it and puts it, the host keeps it and dials where nobody does, and what is seen then is the passage after the move.
@@ -49,4 +52,15 @@ pub fn read_by_a_process()
 /// connection: the node learns what it is for, says nothing, and what is seen then is the passage after the move.
 pub fn opened_by_a_process()
     ensures { (names : List Name) (scene : Scene) (name : Name) (rest : List Item) (o : Opening) → OpensFirst names scene name rest o → IsOpened names scene rest o }
+{}
+
+/// What the laws ask can be had: small scenes, in which a first message is said, and a second; the opening and the first
+/// are read; and the link loses its socket.
+pub fn scenes()
+    ensures apart { AreApart the_names }
+    ensures first { SaysFirst the_names at_start 0 the_name 0 hello }
+    ensures second { SaysOnOpen the_names (said_once (Dialing 0)) 0 the_name 0 1024 hello }
+    ensures opening { OpensFirst the_names (up_with Unread (Created 0 0 ∷ message_item ∷ [])) the_name (message_item ∷ []) the_opening }
+    ensures reading { ReadsFirst the_names (up_with bound_there (message_item ∷ [])) the_name [] the_reading }
+    ensures loss { LosesSocket the_names (said_once (Up 0 false)) 0 false (record open_pair { mark = Broken } ∷ []) }
 {}
