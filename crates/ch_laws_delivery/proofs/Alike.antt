@@ -1,7 +1,7 @@
 -- Passages that agree in all their parts are one.
 use mathlib.Core.Path.{fun_ext}
 use Rattle.std.specs.Prelude.{◌≡◌, ℕ, Bool, List, Option}
-use Rattle.std.proofs.Common.{refl, ap, sym, ◌∙◌}
+use Rattle.std.proofs.Common.{ap, ◌∙◌}
 use Rattle.ch_delivery.specs.Passage.{Mark, Item, Binding, Entry, Passage}
 
 -- what the sending node keeps may differ in form

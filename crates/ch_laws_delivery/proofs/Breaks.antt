@@ -1,5 +1,5 @@
 -- A link that was up and loses its socket breaks its pairs, as the passage's move says.
-use Rattle.std.specs.Prelude.{◌≡◌, ℕ, suc, ◌+◌, Bool, true, false, not, cond, ◌&&◌, ◌==◌, List, [], ◌∷◌, find, filter, nat_lt, unwrap_or, slice_get, Option, Some, None, Result, Ok, Err, if◌then◌else◌}
+use Rattle.std.specs.Prelude.{◌≡◌, ℕ, suc, ◌+◌, Bool, true, false, not, cond, ◌&&◌, ◌==◌, List, [], ◌∷◌, find, nat_lt, unwrap_or, slice_get, Option, Some, None, Result, Ok, Err, if◌then◌else◌}
 use Rattle.std.proofs.Common.{refl, ap, sym, ◌∙◌, subst, arith}
 use Rattle.ch_base.specs.AddressValues.{AddressValue}
 use Rattle.ch_base.specs.declared.event.Event.TheVariants as events
@@ -11,14 +11,12 @@ use Rattle.ch_link.specs.Table.{step_of}
 use Rattle.ch_link.specs.declared.LinkState.{LinkState}
 use Rattle.ch_link.specs.declared.LinkState.TheVariants.{Idle, Up}
 use Rattle.ch_link.specs.declared.LinkIn.TheVariants.{Gone}
-use Rattle.ch_mail.specs.Lives.{is_over}
 use Rattle.ch_static.specs.declared.target.Target.{Target}
 use Rattle.ch_static.specs.declared.target.Target.TheVariants as targets
 use Rattle.ch_watch.specs.declared.waiting.Waiting.{Waiting}
 use Rattle.ch_watch.specs.Same.{same_node}
 use Rattle.ch_watch.specs.Watches.{lost_of}
 use Rattle.ch_wire.specs.declared.frame.Frame.{Frame}
-use Rattle.ch_model.specs.declared.step.Step.{Step}
 use Rattle.ch_model.specs.declared.step.Step.TheVariants as steps
 use Rattle.ch_model.specs.declared.step.Weight.{Weight}
 use Rattle.ch_model.specs.HostState.{Link, HostState}
@@ -27,7 +25,7 @@ use Rattle.ch_model.specs.HostWrites.{is_up, end_socket, forgotten}
 use Rattle.ch_model.specs.HostLinks.{hears}
 use Rattle.ch_model.specs.NodeState as nodes
 use Rattle.ch_model.specs.NodeState.{NodeState, Pair}
-use Rattle.ch_model.specs.NodeActs.{◌>>=◌, Done, each_in_turn, growing}
+use Rattle.ch_model.specs.NodeActs.{◌>>=◌, each_in_turn, growing}
 use Rattle.ch_model.specs.NodeIds.{target_at}
 use Rattle.ch_model.specs.NodePairs.{same_target, is_pair, new_pair, pair_of, next_epoch, broken, lost_as, lost_pair, lost_pairs}
 use Rattle.ch_model.specs.NodeArrivals.{lost_told, peer_lost}
@@ -35,7 +33,7 @@ use Rattle.ch_model.specs.Node.{node_event}
 use Rattle.ch_delivery.specs.Passage.{Mark, Passage, Broke}
 use Rattle.ch_delivery.specs.Passage as marks
 use Rattle.ch_delivery.specs.Moves.{Break, mark_lost, epoch_lost, index_lost, after}
-use Rattle.ch_laws_delivery.specs.Scene.{Name, Party, Scene, link_of}
+use Rattle.ch_laws_delivery.specs.Scene.{Name, Scene, link_of}
 use Rattle.ch_laws_delivery.specs.Sending.{is_named, named, bare, mark_as, has_ended, pair_at, mark_of, epoch_of, index_of, items_of}
 use Rattle.ch_laws_delivery.specs.View.{view}
 use Rattle.ch_laws_delivery.specs.Losses.{LosesSocket, host_after, node_after, broken_in, IsBroken}

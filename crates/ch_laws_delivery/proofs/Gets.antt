@@ -1,21 +1,16 @@
 -- A message that is read for a process that lives is got, as the passage's move says.
-use Rattle.std.specs.Prelude.{◌≡◌, ℕ, ◌+◌, ◌-◌, Bool, true, false, not, ◌&&◌, ◌==◌, List, [], ◌∷◌, find, nat_lt, slice_get, Option, Some, None, Result, Ok, Err, if◌then◌else◌}
+use Rattle.std.specs.Prelude.{◌≡◌, ℕ, ◌+◌, ◌-◌, false, not, ◌&&◌, ◌==◌, List, [], ◌∷◌, find, nat_lt, slice_get, Option, Some, None, Ok, Err, if◌then◌else◌}
 use Rattle.std.specs.Option.{option_map_or}
 use Rattle.std.proofs.Common.{refl, ap, sym, ◌∙◌, arith}
 use Rattle.std.proofs.lemmas.Bool.Decides.{nat_tests}
 use Rattle.ch_base.specs.declared.event.Event.TheVariants as events
-use Rattle.ch_ident.specs.declared.error.IdentError.{IdentError}
 use Rattle.ch_ident.specs.declared.identifier.ProcessId.{ProcessId}
-use Rattle.ch_ident.specs.declared.message.Message.{Message}
-use Rattle.ch_ident.specs.Reading.{user_of}
 use Rattle.ch_light.specs.declared.TheConstants.{FIRST_ID}
 use Rattle.ch_light.specs.declared.Connection.{Connection}
 use Rattle.ch_light.specs.declared.error.LightError.TheVariants.{NotOpen}
-use Rattle.ch_light.specs.Ids.{opened, open_number, conn_of}
-use Rattle.ch_mail.specs.declared.error.MailError.{MailError}
+use Rattle.ch_light.specs.Ids.{open_number, conn_of}
 use Rattle.ch_mail.specs.declared.life.Life.{Life}
 use Rattle.ch_mail.specs.Lives.{is_over}
-use Rattle.ch_mail.specs.Mail.{life_of}
 use Rattle.ch_mail.specs.Process.{Process}
 use Rattle.ch_static.specs.declared.target.Target.{Target}
 use Rattle.ch_static.specs.declared.target.Target.TheVariants as targets
@@ -32,12 +27,11 @@ use Rattle.ch_model.specs.NodeAsks.{standing}
 use Rattle.ch_model.specs.NodeSends.{got_put, get, deliver}
 use Rattle.ch_model.specs.NodeArrivals.{to_target, received_as, received_on, received}
 use Rattle.ch_model.specs.Node.{node_event}
-use Rattle.ch_delivery.specs.Passage as items
 use Rattle.ch_delivery.specs.Passage.{Item, Binding, Void, Bound, Unknown, Got, Passage, is_some}
 use Rattle.ch_delivery.specs.Moves as moves
 use Rattle.ch_delivery.specs.Moves.{Read, put, noted, after}
-use Rattle.ch_laws_delivery.specs.Scene.{Name, Use, Party, Way, Scene, link_of}
-use Rattle.ch_laws_delivery.specs.Receiving.{if_living, stands_for, standing_for, binding_of, of_arrived, of_conn, of_created, place_for, at_place, bound_of}
+use Rattle.ch_laws_delivery.specs.Scene.{Name, Scene, link_of}
+use Rattle.ch_laws_delivery.specs.Receiving.{if_living, stands_for, standing_for, binding_of, of_arrived, of_created, place_for, at_place}
 use Rattle.ch_laws_delivery.specs.View.{view}
 use Rattle.ch_laws_delivery.specs.Receipts.{Reading, ReadsFirst, node_after, got_in, IsGot}
 use Rattle.ch_laws_delivery.proofs.Mails.{Unmoved, put_unmoved}

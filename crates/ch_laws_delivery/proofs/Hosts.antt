@@ -1,6 +1,6 @@
 -- What a host does with a payload of a link that isn't up.
 use Rattle.std.specs.Prelude.{◌≡◌, ℕ, ◌+◌, Bool, true, false, cond, List, [], ◌∷◌, ◌++◌, find, nat_lt, Option, Some, None, Result, Ok, Err, if◌then◌else◌}
-use Rattle.std.proofs.Common.{refl, ap, sym, ◌∙◌, subst}
+use Rattle.std.proofs.Common.{refl, ap, sym, ◌∙◌}
 use Rattle.ch_base.specs.AddressValues.{AddressValue}
 use Rattle.ch_base.specs.declared.memory.Stop.TheVariants as stops
 use Rattle.ch_link.specs.Table.{step_of}
@@ -16,7 +16,7 @@ use Rattle.ch_model.specs.declared.step.Step.{Step}
 use Rattle.ch_model.specs.declared.step.Step.TheVariants as steps
 use Rattle.ch_model.specs.declared.step.Weight.{Weight}
 use Rattle.ch_model.specs.HostState.{Link, HostState}
-use Rattle.ch_model.specs.HostSteps.{Stepped, after_steps, is_link, link_with, with_link, store_link, with_socket}
+use Rattle.ch_model.specs.HostSteps.{after_steps, is_link, link_with, with_link, store_link, with_socket}
 use Rattle.ch_model.specs.HostWrites.{is_up}
 use Rattle.ch_model.specs.HostLinks.{most_dials, next_dial, dialed, hears}
 use Rattle.ch_model.specs.HostCalls.{◌>>=◌, stepped, found_or, short_enough, has_room, carries, puts_and_wants, host_send}

@@ -1,7 +1,7 @@
 -- What is found by its key: links, pairs, and the tests by which they are found.
-use Rattle.std.specs.Prelude.{◌≡◌, ℕ, Bool, true, false, cond, ◌&&◌, ◌==◌, List, [], ◌∷◌, find, Option, Some, None, unwrap_or, if◌then◌else◌}
+use Rattle.std.specs.Prelude.{◌≡◌, ℕ, Bool, true, false, cond, ◌&&◌, ◌==◌, List, [], ◌∷◌, find, Option, Some, None, unwrap_or}
 use Rattle.std.specs.Str.{bytes_eq}
-use Rattle.std.proofs.Common.{refl, ap, sym, ◌∙◌, subst}
+use Rattle.std.proofs.Common.{refl, ap, sym, ◌∙◌}
 use Rattle.std.proofs.lemmas.Bool.{eqb-true, eq-eqb, and_parts}
 use Rattle.std.proofs.lemmas.Slice.Eq.{bytes_eq-Decides}
 use Rattle.ch_base.specs.AddressValues.{AddressValue}
@@ -11,9 +11,9 @@ use Rattle.ch_static.specs.declared.target.Target.{Target}
 use Rattle.ch_static.specs.declared.target.Target.TheVariants as targets
 use Rattle.ch_watch.specs.Same.{same_node}
 use Rattle.ch_model.specs.HostState.{Link, HostState}
-use Rattle.ch_model.specs.HostSteps.{is_link, new_link, link_or_new, link_with, store_link, with_link}
-use Rattle.ch_model.specs.NodeState.{NodeState, Pair}
-use Rattle.ch_model.specs.NodePairs.{same_process, same_port, same_target, is_pair, new_pair, pair_of, with_pair, keeping}
+use Rattle.ch_model.specs.HostSteps.{is_link, link_or_new, link_with, store_link, with_link}
+use Rattle.ch_model.specs.NodeState.{Pair}
+use Rattle.ch_model.specs.NodePairs.{same_process, same_port, same_target, is_pair, new_pair, pair_of, with_pair}
 
 -- ---- tests
 

@@ -1,5 +1,5 @@
 -- A message that is put into a mailbox or a port changes no life and no count of ports.
-use Rattle.std.specs.Prelude.{◌≡◌, ◌≢◌, ℕ, zero, suc, ◌<◌, Bool, true, false, cond, List, [], ◌∷◌, ◌++◌, length, nat_eq, nat_lt, slice_get, slice_set, Option, Some, None, Result, Ok, Err, if◌then◌else◌}
+use Rattle.std.specs.Prelude.{◌≡◌, ◌≢◌, ℕ, zero, suc, Bool, true, false, List, [], ◌∷◌, ◌++◌, length, nat_eq, nat_lt, slice_get, slice_set, Option, Some, None, Result, Ok, Err, if◌then◌else◌}
 use Rattle.std.specs.Option.{option_map, option_map_or}
 use Rattle.std.proofs.Common.{refl, ap, sym, ◌∙◌, subst, arith}
 use Rattle.std.proofs.lemmas.Bool.Decides.{nat_tests}
@@ -8,10 +8,9 @@ use Rattle.ch_ident.specs.declared.message.Message.{Message}
 use Rattle.ch_light.proofs.Lists.{set_here, set_other}
 use Rattle.ch_mail.specs.declared.error.MailError.{MailError}
 use Rattle.ch_mail.specs.declared.error.MailError.TheVariants.{NotLive, Worn}
-use Rattle.ch_mail.specs.declared.life.Life.{Life}
 use Rattle.ch_mail.specs.Lives.{is_over}
 use Rattle.ch_mail.specs.Process.{Process}
-use Rattle.ch_mail.specs.Mail.{◌>>=◌, there_or, last_u64, waiting_in, appended, given_to, life_of, made_at, put_of}
+use Rattle.ch_mail.specs.Mail.{◌>>=◌, there_or, last_u64, waiting_in, appended, given_to, life_of, put_of}
 use Rattle.ch_model.specs.NodeIds.{has_port}
 
 refuses : {X : Type 0} {A : Type 0} (e : MailError) (x : X) → ◌≡◌ {A = Result X MailError} (Err e) (Ok x) → A

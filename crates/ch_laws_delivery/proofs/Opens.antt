@@ -1,35 +1,29 @@
 -- An opening message that is read binds its connection, as the passage's move says.
-use Rattle.std.specs.Prelude.{◌≡◌, ℕ, zero, suc, Bool, true, false, not, cond, ◌&&◌, ◌==◌, nat_eq, List, [], ◌∷◌, map, find, slice_get, Option, Some, None, Result, Ok, Err, if◌then◌else◌}
-use Rattle.std.specs.Option.{option_map, option_map_or}
-use Rattle.std.proofs.Common.{refl, ap, sym, ◌∙◌, subst, arith}
-use Rattle.std.proofs.lemmas.Bool.{eqb-true, eq-eqb, and_parts}
+use Rattle.std.specs.Prelude.{◌≡◌, ℕ, suc, Bool, true, false, not, cond, ◌&&◌, ◌==◌, nat_eq, List, [], ◌∷◌, map, find, slice_get, Option, Some, None, Ok, if◌then◌else◌}
+use Rattle.std.specs.Option.{option_map}
+use Rattle.std.proofs.Common.{refl, ap, sym, ◌∙◌, arith}
+use Rattle.std.proofs.lemmas.Bool.{eqb-true, and_parts}
 use Rattle.std.proofs.lemmas.Bool.Decides.{nat_tests}
 use Rattle.ch_base.specs.declared.event.Event.TheVariants as events
-use Rattle.ch_ident.specs.declared.error.IdentError.{IdentError}
 use Rattle.ch_ident.specs.declared.identifier.Identifier.TheVariants as ends
-use Rattle.ch_ident.specs.declared.identifier.ProcessId.{ProcessId}
-use Rattle.ch_ident.specs.declared.node_message.NodeMessage.{NodeMessage}
-use Rattle.ch_ident.specs.declared.node_message.NodeMessage.TheVariants as messages
 use Rattle.ch_ident.specs.Reading.{message_of}
 use Rattle.ch_light.specs.declared.Connection.{Connection}
-use Rattle.ch_light.specs.Ids.{opened}
 use Rattle.ch_static.specs.declared.target.Target.{Target}
 use Rattle.ch_static.specs.declared.target.Target.TheVariants as targets
-use Rattle.ch_watch.specs.Same.{same_node, node_of}
+use Rattle.ch_watch.specs.Same.{node_of}
 use Rattle.ch_model.specs.NodeState as nodes
 use Rattle.ch_model.specs.NodeState.{NodeState, Arrived}
-use Rattle.ch_model.specs.NodeActs.{Done, silent}
-use Rattle.ch_model.specs.NodeIds.{is_here, is_own, life_here, is_living, has_port, is_port_here}
+use Rattle.ch_model.specs.NodeActs.{silent}
+use Rattle.ch_model.specs.NodeIds.{is_here, is_own, life_here, is_living, is_port_here}
 use Rattle.ch_model.specs.NodeAsks.{standing}
 use Rattle.ch_model.specs.NodeArrivals.{bound_between, bound_by, rebound, bind, received_as, received_on, received}
 use Rattle.ch_model.specs.Node.{node_event}
-use Rattle.ch_delivery.specs.Passage as items
 use Rattle.ch_delivery.specs.Passage.{Item, Binding, Void, Bound, Unknown, Passage, is_some, is_there}
 use Rattle.ch_delivery.specs.Moves as moves
 use Rattle.ch_delivery.specs.Moves.{Read, put, bound_to, after}
-use Rattle.ch_laws_delivery.specs.Scene.{Name, Use, Party, Way, Scene, link_of}
+use Rattle.ch_laws_delivery.specs.Scene.{Name, Use, Scene, link_of}
 use Rattle.ch_laws_delivery.specs.Sending.{named, is_named}
-use Rattle.ch_laws_delivery.specs.Receiving.{if_living, stands_for, standing_for, binding_of, of_arrived, of_conn, of_created, is_for, place_for, at_place, bound_of}
+use Rattle.ch_laws_delivery.specs.Receiving.{stands_for, standing_for, binding_of, of_arrived, of_conn, of_created, is_for, place_for, at_place, bound_of}
 use Rattle.ch_laws_delivery.specs.View.{view}
 use Rattle.ch_laws_delivery.specs.Openings.{Opening, OpensFirst, bound_to_process, node_after, opened_in, IsOpened}
 use Rattle.ch_laws_delivery.proofs.Alike.{sending_alike}

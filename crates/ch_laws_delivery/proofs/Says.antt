@@ -1,18 +1,15 @@
 -- A message that is said on an open connection while the link isn't up waits, as the passage's move says.
 use Rattle.std.specs.Prelude.{◌≡◌, ℕ, suc, ◌+◌, nat_eq, Bool, true, false, cond, List, [], ◌∷◌, ◌++◌, slice_get, Option, Some, None, Result, Ok, if◌then◌else◌}
-use Rattle.std.specs.List.{flat_map}
-use Rattle.std.proofs.Common.{refl, ap, sym, ◌∙◌, subst, arith}
+use Rattle.std.proofs.Common.{refl, ap, sym, ◌∙◌, arith}
 use Rattle.std.proofs.lemmas.Bool.Decides.{nat_tests}
 use Rattle.std.proofs.lemmas.Grind.{flat_map-append}
 use Rattle.ch_base.specs.declared.memory.Stop.{Stop}
 use Rattle.ch_ident.specs.declared.message.Message.{Message}
 use Rattle.ch_static.specs.declared.target.Target.{Target}
-use Rattle.ch_wire.specs.declared.frame.Frame.{Frame}
 use Rattle.ch_wire.specs.declared.frame.Frame.TheVariants as frames
 use Rattle.ch_model.specs.declared.act.Act.TheVariants as acts
 use Rattle.ch_model.specs.declared.note.Note.TheVariants as notes
-use Rattle.ch_model.specs.declared.step.Weight.{Weight}
-use Rattle.ch_model.specs.HostState.{Link, HostState}
+use Rattle.ch_model.specs.HostState.{Link}
 use Rattle.ch_model.specs.HostSteps.{link_with}
 use Rattle.ch_model.specs.HostWrites.{is_up, said_of}
 use Rattle.ch_model.specs.NodeState as nodes
@@ -26,8 +23,8 @@ use Rattle.ch_delivery.specs.Passage.{Mark, Opened, Item, Said, Passage}
 use Rattle.ch_delivery.specs.Passage as items
 use Rattle.ch_delivery.specs.Moves as moves
 use Rattle.ch_delivery.specs.Moves.{Say, put, noted, marked, written, after}
-use Rattle.ch_laws_delivery.specs.Scene.{Name, Use, Party, Scene, link_of}
-use Rattle.ch_laws_delivery.specs.Sending.{bare, mark_as, has_ended, pair_at, mark_of, epoch_of, index_of, use_at, carried, items_in, items_of}
+use Rattle.ch_laws_delivery.specs.Scene.{Name, Use, Scene, link_of}
+use Rattle.ch_laws_delivery.specs.Sending.{bare, mark_as, has_ended, pair_at, mark_of, epoch_of, index_of, carried, items_in, items_of}
 use Rattle.ch_laws_delivery.specs.View.{view, AreApart}
 use Rattle.ch_laws_delivery.specs.Sends.{weight_at, SaysOnOpen, acts_of, said_in, IsSaid}
 use Rattle.ch_laws_delivery.proofs.Keys.{pair_key, pair_named, pair_kept, other_kept, link_named}

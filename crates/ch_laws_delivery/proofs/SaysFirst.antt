@@ -1,6 +1,5 @@
 -- The first message of an epoch opens a connection and waits on it, as the passage's move says.
 use Rattle.std.specs.Prelude.{◌≡◌, ◌<◌, ℕ, suc, ◌+◌, ◌-◌, nat_eq, Bool, true, false, not, ◌&&◌, ◌==◌, cond, List, [], ◌∷◌, ◌++◌, length, find, filter, slice_get, nat_lt, nat_le, is_some, Option, Some, None, Result, Ok, Err, if◌then◌else◌}
-use Rattle.std.specs.List.{flat_map}
 use Rattle.std.proofs.Common.{refl, ap, sym, ◌∙◌, subst, arith}
 use Rattle.std.proofs.lemmas.Bool.{eq-eqb}
 use Rattle.std.proofs.lemmas.Bool.Decides.{nat_tests}
@@ -18,8 +17,6 @@ use Rattle.ch_light.specs.declared.error.LightError.{LightError}
 use Rattle.ch_light.specs.declared.error.LightError.TheVariants.{Spent}
 use Rattle.ch_model.specs.declared.step.Step.{Step}
 use Rattle.ch_light.specs.Ids.{id_of, opened, give_of}
-use Rattle.ch_link.specs.declared.LinkState.{LinkState}
-use Rattle.ch_link.specs.declared.LinkState.TheVariants.{Idle}
 use Rattle.ch_static.specs.declared.target.Target.{Target}
 use Rattle.ch_wire.specs.declared.frame.Frame.{Frame}
 use Rattle.ch_wire.specs.declared.frame.Frame.TheVariants as frames
@@ -29,11 +26,11 @@ use Rattle.ch_model.specs.declared.step.EndError.{EndError}
 use Rattle.ch_model.specs.declared.step.EndError.TheVariants.{QueueFull}
 use Rattle.ch_model.specs.declared.step.Place.{Place}
 use Rattle.ch_model.specs.declared.step.Weight.{Weight}
-use Rattle.ch_model.specs.declared.step.Weight.TheVariants.{Counted, Free}
+use Rattle.ch_model.specs.declared.step.Weight.TheVariants.{Free}
 use Rattle.ch_model.specs.HostState.{Link, HostState}
 use Rattle.ch_model.specs.HostSteps.{link_with, store_link}
 use Rattle.ch_model.specs.HostWrites.{is_up, said_of, is_counted, counted_in}
-use Rattle.ch_model.specs.HostCalls.{◌>>=◌, of_ids, stepped, open_endpoint, puts_and_wants, carries, most_waiting, has_room, host_connect, host_send}
+use Rattle.ch_model.specs.HostCalls.{◌>>=◌, of_ids, stepped, puts_and_wants, carries, most_waiting, has_room, host_connect, host_send}
 use Rattle.ch_model.specs.NodeState as nodes
 use Rattle.ch_model.specs.NodeState.{NodeState, Pair}
 use Rattle.ch_model.specs.NodeIds.{process_id, is_here, target_at, opened_to}
@@ -46,11 +43,11 @@ use Rattle.ch_delivery.specs.Passage.{Mark, Opened, Unopened, Item, Said, Passag
 use Rattle.ch_delivery.specs.Passage as items
 use Rattle.ch_delivery.specs.Moves as moves
 use Rattle.ch_delivery.specs.Moves.{Say, put, noted, marked, written, after}
-use Rattle.ch_laws_delivery.specs.Scene.{Name, Use, Party, Scene, link_of}
+use Rattle.ch_laws_delivery.specs.Scene.{Name, Use, Scene, link_of}
 use Rattle.ch_laws_delivery.specs.Sending.{bare, mark_as, has_ended, pair_at, mark_of, epoch_of, index_of, flat, use_at, carried, closing, items_in, items_of}
 use Rattle.ch_laws_delivery.specs.Sends.{weight_at}
 use Rattle.ch_laws_delivery.specs.View.{view, AreApart}
-use Rattle.ch_laws_delivery.specs.FirstSends.{IsGiven, AreGiven, opening_of, next_id, SaysFirst, first_acts, with_conn, first_after, first_in, Called, IsSaidFirst}
+use Rattle.ch_laws_delivery.specs.FirstSends.{IsGiven, AreGiven, opening_of, next_id, SaysFirst, first_acts, with_conn, first_after, first_in, IsSaidFirst}
 use Rattle.ch_laws_delivery.proofs.Keys.{link_named}
 use Rattle.ch_laws_delivery.proofs.Hosts.{Takes, takes, sends, Alone, none_alone, kept_alone, alone_found}
 use Rattle.ch_laws_delivery.proofs.Says.{one_by, one_to, own_pair, read_at}

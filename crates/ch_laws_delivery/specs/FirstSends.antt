@@ -1,5 +1,5 @@
 -- The first message of an epoch, while the link isn't up: it opens the connection.
-use Rattle.std.specs.Prelude.{◌≡◌, ◌<◌, ℕ, ◌+◌, Bool, true, false, List, [], ◌∷◌, ◌++◌, length, find, slice_get, nat_lt, nat_le, Option, Some, None, Result, Ok}
+use Rattle.std.specs.Prelude.{◌≡◌, ◌<◌, ℕ, ◌+◌, true, false, List, [], ◌∷◌, ◌++◌, length, find, slice_get, nat_lt, nat_le, Option, Some, None, Ok}
 use Rattle.ch_ident.specs.declared.identifier.Identifier.TheVariants as ends
 use Rattle.ch_ident.specs.declared.message.Message.{Message}
 use Rattle.ch_ident.specs.declared.node_message.NodeMessage.TheVariants as messages
@@ -28,7 +28,7 @@ use Rattle.ch_model.specs.NodeConnections.{drawn}
 use Rattle.ch_model.specs.NodeSends.{payload_of, with_said, say}
 use Rattle.ch_delivery.specs.Passage.{Said}
 use Rattle.ch_delivery.specs.Moves.{Say, after}
-use Rattle.ch_laws_delivery.specs.Scene.{Name, Use, Party, Scene, link_of}
+use Rattle.ch_laws_delivery.specs.Scene.{Name, Use, Scene, link_of}
 use Rattle.ch_laws_delivery.specs.Sending.{has_ended, pair_at}
 use Rattle.ch_laws_delivery.specs.Sends.{weight_at}
 use Rattle.ch_laws_delivery.specs.View.{view}

@@ -1,10 +1,9 @@
 -- The sending node's link, which was up, loses its socket.
-use Rattle.std.specs.Prelude.{◌≡◌, ℕ, Bool, true, List, [], ◌∷◌, filter, not, slice_get, Option, Some, Result, Ok}
+use Rattle.std.specs.Prelude.{◌≡◌, ℕ, Bool, true, List, [], ◌∷◌, filter, not, slice_get, Some, Ok}
 use Rattle.ch_base.specs.declared.event.Event.TheVariants as events
 use Rattle.ch_base.specs.declared.event.Why.TheVariants.{Disconnect}
 use Rattle.ch_link.specs.declared.LinkState.TheVariants.{Idle, Up}
 use Rattle.ch_link.specs.declared.LinkIn.TheVariants.{Gone}
-use Rattle.ch_model.specs.declared.step.Step.{Step}
 use Rattle.ch_model.specs.declared.step.Step.TheVariants as steps
 use Rattle.ch_model.specs.HostState.{Link, HostState}
 use Rattle.ch_model.specs.HostSteps.{with_link}

@@ -1,5 +1,5 @@
 -- An opening message that is read: the receiving node learns what its connection is for.
-use Rattle.std.specs.Prelude.{◌≡◌, ℕ, ◌+◌, Bool, true, ◌==◌, List, [], ◌∷◌, find, slice_get, Option, Some, Result, Ok, if◌then◌else◌}
+use Rattle.std.specs.Prelude.{◌≡◌, ℕ, true, ◌==◌, List, [], ◌∷◌, find, slice_get, Some, Ok, if◌then◌else◌}
 use Rattle.ch_base.specs.declared.event.Event.TheVariants as events
 use Rattle.ch_ident.specs.declared.identifier.Identifier.TheVariants as ends
 use Rattle.ch_ident.specs.declared.identifier.ProcessId.{ProcessId}
@@ -17,7 +17,7 @@ use Rattle.ch_model.specs.Node.{node_event}
 use Rattle.ch_delivery.specs.Passage as items
 use Rattle.ch_delivery.specs.Passage.{Item}
 use Rattle.ch_delivery.specs.Moves.{Read, put, after}
-use Rattle.ch_laws_delivery.specs.Scene.{Name, Use, Party, Way, Scene, link_of}
+use Rattle.ch_laws_delivery.specs.Scene.{Name, Scene, link_of}
 use Rattle.ch_laws_delivery.specs.Receiving.{place_for}
 use Rattle.ch_laws_delivery.specs.View.{view}
 

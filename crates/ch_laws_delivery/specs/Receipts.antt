@@ -1,5 +1,5 @@
 -- A message that is read on the socket that the receiving node is up on, for a process that lives there.
-use Rattle.std.specs.Prelude.{◌≡◌, ℕ, ◌+◌, Bool, true, ◌==◌, List, [], ◌∷◌, find, slice_get, Option, Some, None, Result, Ok}
+use Rattle.std.specs.Prelude.{◌≡◌, ℕ, ◌+◌, true, ◌==◌, List, [], ◌∷◌, find, slice_get, Some, None, Ok}
 use Rattle.ch_base.specs.declared.event.Event.TheVariants as events
 use Rattle.ch_ident.specs.declared.identifier.ProcessId.{ProcessId}
 use Rattle.ch_ident.specs.declared.message.Message.{Message}
@@ -22,7 +22,7 @@ use Rattle.ch_model.specs.Node.{node_event}
 use Rattle.ch_delivery.specs.Passage as items
 use Rattle.ch_delivery.specs.Passage.{Item, Got}
 use Rattle.ch_delivery.specs.Moves.{Read, put, after}
-use Rattle.ch_laws_delivery.specs.Scene.{Name, Use, Party, Way, Scene, link_of}
+use Rattle.ch_laws_delivery.specs.Scene.{Name, Scene, link_of}
 use Rattle.ch_laws_delivery.specs.Receiving.{place_for}
 use Rattle.ch_laws_delivery.specs.View.{view}
 

@@ -1,5 +1,5 @@
 -- The receiving node as a passage sees it: who stands for a target, and what the node knows of connections.
-use Rattle.std.specs.Prelude.{ℕ, Bool, true, false, ◌&&◌, suc, ◌==◌, List, [], ◌∷◌, find, slice_get, Option, Some, None, if◌then◌else◌}
+use Rattle.std.specs.Prelude.{ℕ, Bool, false, ◌&&◌, suc, ◌==◌, List, [], ◌∷◌, find, slice_get, Option, Some, None, if◌then◌else◌}
 use Rattle.std.specs.Option.{option_map}
 use Rattle.ch_ident.specs.declared.identifier.ProcessId.{ProcessId}
 use Rattle.ch_light.specs.declared.Connection.{Connection}

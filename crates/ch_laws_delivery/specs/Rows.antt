@@ -1,5 +1,5 @@
 -- Small scenes, which have all that the laws ask.
-use Rattle.std.specs.Prelude.{ℕ, nat_eq, Bool, true, false, List, [], ◌∷◌, Option, Some, None}
+use Rattle.std.specs.Prelude.{ℕ, nat_eq, true, false, List, [], ◌∷◌, Some}
 use Rattle.ch_base.specs.AddressValues.{AddressValue}
 use Rattle.ch_ident.specs.declared.identifier.ProcessId.{ProcessId}
 use Rattle.ch_ident.specs.declared.message.Message.{Message}
@@ -7,9 +7,8 @@ use Rattle.ch_ident.specs.Spelling as spelling
 use Rattle.ch_light.specs.declared.Connection.{Connection}
 use Rattle.ch_light.specs.Ids.{opened}
 use Rattle.ch_link.specs.declared.LinkState.{LinkState}
-use Rattle.ch_link.specs.declared.LinkState.TheVariants.{Idle, Dialing, Up}
+use Rattle.ch_link.specs.declared.LinkState.TheVariants.{Up}
 use Rattle.ch_mail.specs.declared.life.Life.TheVariants.{Live}
-use Rattle.ch_mail.specs.Process.{Process}
 use Rattle.ch_static.specs.declared.target.Target.TheVariants as targets
 use Rattle.ch_watch.specs.Lists.{Lists}
 use Rattle.ch_model.specs.HostState.{Link, HostState}
@@ -17,8 +16,7 @@ use Rattle.ch_model.specs.NodeState as nodes
 use Rattle.ch_model.specs.NodeState.{NodeState, Pair, Arrived}
 use Rattle.ch_delivery.specs.Passage as items
 use Rattle.ch_delivery.specs.Passage.{Item}
-use Rattle.ch_laws_delivery.specs.Scene.{Name, Use, Party, Way, Scene}
-use Rattle.ch_laws_delivery.specs.Sending.{pair_at}
+use Rattle.ch_laws_delivery.specs.Scene.{Name, Use, Way, Scene}
 use Rattle.ch_laws_delivery.specs.FirstSends.{opening_of}
 use Rattle.ch_laws_delivery.specs.Receipts.{Reading}
 use Rattle.ch_laws_delivery.specs.Openings.{Opening}

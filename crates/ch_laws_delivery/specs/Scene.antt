@@ -1,6 +1,6 @@
 -- What a passage sees of the world: the node that sends and its link, the node that receives and its link, and the way
 -- between.
-use Rattle.std.specs.Prelude.{ℕ, Bool, List, Option, Some, None}
+use Rattle.std.specs.Prelude.{ℕ, Bool, List, Option}
 use Rattle.ch_base.specs.declared.address.Address.{Address}
 use Rattle.ch_static.specs.declared.target.Target.{Target}
 use Rattle.ch_model.specs.HostState.{Link, HostState}

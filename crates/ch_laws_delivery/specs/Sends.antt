@@ -1,14 +1,13 @@
 -- A message that is said on an open connection while the link isn't up.
-use Rattle.std.specs.Prelude.{◌≡◌, ℕ, ◌+◌, Bool, true, false, List, [], ◌∷◌, ◌++◌, find, slice_get, nat_lt, Option, Some, Result, Ok}
+use Rattle.std.specs.Prelude.{◌≡◌, ℕ, true, false, List, [], ◌∷◌, find, slice_get, nat_lt, Some, Ok}
 use Rattle.ch_ident.specs.declared.message.Message.{Message}
 use Rattle.ch_light.specs.Ids.{id_of}
-use Rattle.ch_wire.specs.declared.frame.Frame.TheVariants as frames
 use Rattle.ch_model.specs.declared.act.Act.{Act}
 use Rattle.ch_model.specs.declared.act.Act.TheVariants as acts
 use Rattle.ch_model.specs.declared.note.Note.TheVariants as notes
 use Rattle.ch_model.specs.declared.step.Step.{Step}
 use Rattle.ch_model.specs.declared.step.Weight.{Weight}
-use Rattle.ch_model.specs.HostState.{Link, HostState}
+use Rattle.ch_model.specs.HostState.{HostState}
 use Rattle.ch_model.specs.HostWrites.{is_up}
 use Rattle.ch_model.specs.HostLinks.{most_dials}
 use Rattle.ch_model.specs.HostCalls.{carries, short_enough, has_room, host_send}
@@ -20,7 +19,7 @@ use Rattle.ch_model.specs.NodePairs.{keeping}
 use Rattle.ch_model.specs.NodeSends.{payload_of, weight_of, with_said, say}
 use Rattle.ch_delivery.specs.Passage.{Said}
 use Rattle.ch_delivery.specs.Moves.{Say, after}
-use Rattle.ch_laws_delivery.specs.Scene.{Name, Use, Party, Scene, link_of}
+use Rattle.ch_laws_delivery.specs.Scene.{Name, Scene, link_of}
 use Rattle.ch_laws_delivery.specs.Sending.{has_ended, pair_at, use_at}
 use Rattle.ch_laws_delivery.specs.View.{view}
 

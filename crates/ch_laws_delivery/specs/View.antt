@@ -1,7 +1,6 @@
 -- The passage that two nodes of a world are, for the pairs that have these names.
-use Rattle.std.specs.Prelude.{◌≡◌, ℕ, Bool, List, slice_get, Option, Some}
+use Rattle.std.specs.Prelude.{◌≡◌, ℕ, List, slice_get, Some}
 use Rattle.ch_model.specs.HostWrites.{is_up}
-use Rattle.ch_model.specs.NodePairs.{is_pair}
 use Rattle.ch_delivery.specs.Passage.{Passage}
 use Rattle.ch_laws_delivery.specs.Scene.{Name, Scene, link_of}
 use Rattle.ch_laws_delivery.specs.Sending.{named, mark_of, epoch_of, index_of, items_of}

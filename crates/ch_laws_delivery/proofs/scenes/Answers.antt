@@ -1,11 +1,9 @@
-use Rattle.std.specs.Prelude.{◌≡◌, ℕ, zero, suc, Bool, true, false, List, [], ◌∷◌, slice_get, Option, Some, None}
+use Rattle.std.specs.Prelude.{◌≡◌, ℕ, zero, suc, true, false, [], ◌∷◌, slice_get, Option, Some, None}
 use Rattle.std.proofs.Common.{refl, ap, sym, ◌∙◌}
 use Rattle.std.specs.Fmt.{digits}
 use Rattle.ch_base.specs.Addresses as addresses
 use Rattle.ch_base.specs.Addresses.{read_address}
-use Rattle.ch_ident.specs.Reading as reading
-use Rattle.ch_ident.specs.Reading.{piece_at, tested_at, name_at, text_at, long_at, address_at, process_at, port_at, reference_at, identifier_at, reason_at, found_at, opening_at, fields_at, message_at, whole, identifier_of, message_of, user_of, name_of}
-use Rattle.ch_ident.specs.Spelling as spelling
+use Rattle.ch_ident.specs.Reading.{piece_at, tested_at, name_at, text_at, long_at, address_at, process_at, identifier_at, opening_at, fields_at, message_at, whole, identifier_of, message_of, user_of, name_of}
 use Rattle.ch_light.specs.Ids.{id_of, opened}
 use Rattle.ch_light.specs.declared.Connection.{Connection}
 use Rattle.ch_mail.specs.Mail.{life_of, put_of, given_to, appended, waiting_in}
