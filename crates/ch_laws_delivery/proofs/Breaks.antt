@@ -33,7 +33,7 @@ use Rattle.ch_model.specs.Node.{node_event}
 use Rattle.ch_delivery.specs.Passage.{Mark, Passage, Broke}
 use Rattle.ch_delivery.specs.Passage as marks
 use Rattle.ch_delivery.specs.Moves.{Break, mark_lost, epoch_lost, index_lost, after}
-use Rattle.ch_laws_delivery.specs.Scene.{Name, Scene, link_of}
+use Rattle.ch_laws_delivery.specs.Scene.{Name, Party, Scene, link_of}
 use Rattle.ch_laws_delivery.specs.Sending.{is_named, named, bare, mark_as, has_ended, pair_at, mark_of, epoch_of, index_of, items_of}
 use Rattle.ch_laws_delivery.specs.View.{view}
 use Rattle.ch_laws_delivery.specs.Losses.{LosesSocket, host_after, node_after, broken_in, IsBroken}
@@ -192,6 +192,25 @@ index_stays name nodes.Unopened k not = refl
 index_stays name nodes.Broken k not = refl
 index_stays name (nodes.Opened conn) k not = absurd (not conn refl)
 
+-- a party whose link was up and lost its socket
+module _ (party : Party) (sock : ℕ) (probed : Bool) (pairs : List Pair) (up : (link_of party).state ≡ Up sock probed) (pairs_lost : lost_pairs party.peer party.node.pairs ≡ Ok pairs)
+    (unwatched : (lost_of party.node.watches party.peer).0 ≡ []) where
+  abbrev Own : Link
+  Own = link_of party
+
+  pub fails : hears Gone Own party.host ≡ Ok (steps.Down sock ∷ steps.Broke Own.end Own.peer Disconnect ∷ steps.Post Own.end (events.ConnectionLost Own.peer Disconnect) ∷ [], host_after party.host Own sock)
+  fails = ap (λ (s : LinkState). hears Gone (record Own { state = s }) party.host) up ∙ fails_up Own.end Own.peer Own.waits Own.given Own.created sock probed party.host
+
+  pub loses : node_event party.node (events.ConnectionLost party.peer Disconnect) ≡ Ok ([], node_after party pairs)
+  unfolding node_event peer_lost
+  loses = ap (λ (r : Result (List Pair) Stop). r >>= (λ now. each_in_turn (lost_told Disconnect) (lost_of party.node.watches party.peer).0 (node_after party now))) pairs_lost
+      ∙ ap (λ (waiting : List Waiting). each_in_turn (lost_told Disconnect) waiting (node_after party pairs)) unwatched
+
+  pub link_now : link_with (host_after party.host Own sock) party.end party.peer ≡ forgotten Own Idle
+  link_now = let key = link_named party.host party.end party.peer in
+      ap (λ (z : ℕ). link_with (host_after party.host Own sock) z party.peer) (sym key.0) ∙ ap (λ (z : AddressValue). link_with (host_after party.host Own sock) Own.end z) (sym key.1)
+      ∙ link_kept (forgotten Own Idle) (end_socket sock (with_link (record Own { state = Idle }) party.host))
+
 module _ (names : List Name) (scene : Scene) (sock : ℕ) (probed : Bool) (pairs : List Pair) (h : LosesSocket names scene sock probed pairs) where
   abbrev N : NodeState
   N = scene.from.node
@@ -199,24 +218,11 @@ module _ (names : List Name) (scene : Scene) (sock : ℕ) (probed : Bool) (pairs
   abbrev V : Passage
   V = view names scene
 
-  abbrev L : Link
-  L = link_of scene.from
-
   abbrev Now : NodeState
   Now = node_after scene.from pairs
 
-  fails : hears Gone L scene.from.host ≡ Ok (steps.Down sock ∷ steps.Broke L.end L.peer Disconnect ∷ steps.Post L.end (events.ConnectionLost L.peer Disconnect) ∷ [], host_after scene.from.host L sock)
-  fails = ap (λ (s : LinkState). hears Gone (record L { state = s }) scene.from.host) h.up ∙ fails_up L.end L.peer L.waits L.given L.created sock probed scene.from.host
-
-  loses : node_event N (events.ConnectionLost scene.from.peer Disconnect) ≡ Ok ([], Now)
-  unfolding node_event peer_lost
-  loses = ap (λ (r : Result (List Pair) Stop). r >>= (λ now. each_in_turn (lost_told Disconnect) (lost_of N.watches scene.from.peer).0 (node_after scene.from now))) h.pairs_lost
-      ∙ ap (λ (waiting : List Waiting). each_in_turn (lost_told Disconnect) waiting Now) h.unwatched
-
-  link_now : link_with (host_after scene.from.host L sock) scene.from.end scene.from.peer ≡ forgotten L Idle
-  link_now = let key = link_named scene.from.host scene.from.end scene.from.peer in
-      ap (λ (z : ℕ). link_with (host_after scene.from.host L sock) z scene.from.peer) (sym key.0) ∙ ap (λ (z : AddressValue). link_with (host_after scene.from.host L sock) L.end z) (sym key.1)
-      ∙ link_kept (forgotten L Idle) (end_socket sock (with_link (record L { state = Idle }) scene.from.host))
+  forgets : link_with (host_after scene.from.host (link_of scene.from) sock) scene.from.end scene.from.peer ≡ forgotten (link_of scene.from) Idle
+  forgets = link_now scene.from sock probed pairs h.up h.pairs_lost h.unwatched
 
   module _ (d : ℕ) (name : Name) (is : slice_get names d ≡ Some name) where
     abbrev P : Pair
@@ -257,7 +263,7 @@ module _ (names : List Name) (scene : Scene) (sock : ℕ) (probed : Bool) (pairs
 
   seen_now : view names (broken_in scene sock pairs) ≡ after Break V
   seen_now = sending_alike (view names (broken_in scene sock pairs)) (after Break V) refl (λ d. mark_now d (slice_get names d) refl) (λ d. epoch_now d (slice_get names d) refl) (λ d. index_now d (slice_get names d) refl)
-      (ap (λ (l : Link). items_of [] l.waits) link_now) (ap (λ (l : Link). is_up l.state) link_now) refl refl refl refl (λ d e. refl) (λ d. refl) refl
+      (ap (λ (l : Link). items_of [] l.waits) forgets) (ap (λ (l : Link). is_up l.state) forgets) refl refl refl refl (λ d e. refl) (λ d. refl) refl
 
   pub is_broken : IsBroken names scene sock pairs
-  is_broken = record { host_fails = fails; node_loses = loses; seen = seen_now }
+  is_broken = record { host_fails = fails scene.from sock probed pairs h.up h.pairs_lost h.unwatched; node_loses = loses scene.from sock probed pairs h.up h.pairs_lost h.unwatched; seen = seen_now }

@@ -7,3 +7,4 @@ pub mod Gets
 pub mod Opens
 pub mod SaysFirst
 pub mod Breaks
+pub mod Falls

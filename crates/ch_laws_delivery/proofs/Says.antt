@@ -47,9 +47,6 @@ says_it n pair said conn grows opened away =
 same_place : (i j : ℕ) → nat_eq j i ≡ true → j ≡ i
 same_place i j h = grind (arith, nat_tests)
 
-some_is : {X : Type 0} (x y : X) → Some x ≡ Some y → x ≡ y
-some_is {X = X} x y h = ap {A = Option X} {B = X} (λ o. elim o [ Some z ↦ z | None ↦ x ]) h
-
 module _ (names : List Name) (apart : AreApart names) (n : NodeState) (c : ℕ) (name : Name) (known : slice_get names c ≡ Some name) where
   abbrev pub One : Pair
   One = pair_at n name

@@ -8,3 +8,4 @@ pub mod Openings
 pub mod FirstSends
 pub mod Losses
 pub mod Rows
+pub mod Falls

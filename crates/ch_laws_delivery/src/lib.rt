@@ -2,7 +2,7 @@
 //! move.
 //!
 //! No code: definitions of the view, and laws as clauses of empty functions. The whole model stands below, and the
-//! machine with its laws. So far five events of a node and its host are shown to be moves, each apart: that a whole line
+//! machine with its laws. So far six events of a node and its host are shown to be moves, each apart: that a whole line
 //! of a world is a run of moves, and that all that is asked here of a scene holds in a world, is open.
 #![tactic(auto)]
 
@@ -14,6 +14,7 @@ ghost use Rattle.ch_laws_delivery.specs.View.{AreApart};
 ghost use Rattle.ch_laws_delivery.specs.Sends.{SaysOnOpen, IsSaid};
 ghost use Rattle.ch_laws_delivery.specs.FirstSends.{SaysFirst, IsSaidFirst};
 ghost use Rattle.ch_laws_delivery.specs.Losses.{LosesSocket, IsBroken};
+ghost use Rattle.ch_laws_delivery.specs.Falls.{FallsOff, IsFallen};
 ghost use Rattle.ch_laws_delivery.specs.Receipts.{Reading, ReadsFirst, IsGot};
 ghost use Rattle.ch_laws_delivery.specs.Openings.{Opening, OpensFirst, IsOpened};
 ghost use Rattle.ch_delivery.specs.Passage.{Item, Created};
@@ -54,13 +55,21 @@ pub fn opened_by_a_process()
     ensures { (names : List Name) (scene : Scene) (name : Name) (rest : List Item) (o : Opening) → OpensFirst names scene name rest o → IsOpened names scene rest o }
 {}
 
+/// The receiving node's link that is up and loses its socket falls, where that node watches nothing at the peer: the host
+/// ends its end, tells that the link broke, forgets all connections, and tells its node, which forgets what arrived; and
+/// what is seen then, where nothing comes from that socket any more, is the passage after the move.
+pub fn fallen_by_a_loss()
+    ensures { (names : List Name) (scene : Scene) (sock : ℕ) (probed : Bool) (pairs : List Pair) → FallsOff scene sock probed pairs → IsFallen names scene sock pairs }
+{}
+
 /// What the laws ask can be had: small scenes, in which a first message is said, and a second; the opening and the first
-/// are read; and the link loses its socket.
+/// are read; and the link loses its socket, at either node.
 pub fn scenes()
     ensures apart { AreApart the_names }
     ensures first { SaysFirst the_names at_start 0 the_name 0 hello }
     ensures second { SaysOnOpen the_names (said_once (Dialing 0)) 0 the_name 0 1024 hello }
     ensures opening { OpensFirst the_names (up_with Unread (Created 0 0 ∷ message_item ∷ [])) the_name (message_item ∷ []) the_opening }
     ensures reading { ReadsFirst the_names (up_with bound_there (message_item ∷ [])) the_name [] the_reading }
+    ensures fall { FallsOff (up_with bound_there (message_item ∷ [])) 1 false [] }
     ensures loss { LosesSocket the_names (said_once (Up 0 false)) 0 false (record open_pair { mark = Broken } ∷ []) }
 {}

@@ -126,3 +126,7 @@ returns-clause-reading z = record {
   read = refl;
   fits = refl;
 }
+
+pub returns-clause-fall : goal.returns-clause-fall
+unfolding lost_of same_node
+returns-clause-fall z = record { up = refl; pairs_lost = refl; unwatched = refl }
