@@ -8,3 +8,4 @@ pub mod Opens
 pub mod SaysFirst
 pub mod Breaks
 pub mod Falls
+pub mod Reconnects

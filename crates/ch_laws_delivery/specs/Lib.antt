@@ -9,3 +9,4 @@ pub mod FirstSends
 pub mod Losses
 pub mod Rows
 pub mod Falls
+pub mod Reconnects

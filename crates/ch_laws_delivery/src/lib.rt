@@ -2,7 +2,7 @@
 //! move.
 //!
 //! No code: definitions of the view, and laws as clauses of empty functions. The whole model stands below, and the
-//! machine with its laws. So far six events of a node and its host are shown to be moves, each apart: that a whole line
+//! machine with its laws. So far seven events of a node and its host are shown to be moves, each apart: that a whole line
 //! of a world is a run of moves, and that all that is asked here of a scene holds in a world, is open.
 #![tactic(auto)]
 
@@ -15,6 +15,9 @@ ghost use Rattle.ch_laws_delivery.specs.Sends.{SaysOnOpen, IsSaid};
 ghost use Rattle.ch_laws_delivery.specs.FirstSends.{SaysFirst, IsSaidFirst};
 ghost use Rattle.ch_laws_delivery.specs.Losses.{LosesSocket, IsBroken};
 ghost use Rattle.ch_laws_delivery.specs.Falls.{FallsOff, IsFallen};
+ghost use Rattle.ch_laws_delivery.specs.Reconnects.{ReconnectsOpen, IsReconnected};
+ghost use Rattle.ch_light.specs.declared.Connection.{Connection};
+ghost use Rattle.ch_light.specs.Ids.{closed};
 ghost use Rattle.ch_laws_delivery.specs.Receipts.{Reading, ReadsFirst, IsGot};
 ghost use Rattle.ch_laws_delivery.specs.Openings.{Opening, OpensFirst, IsOpened};
 ghost use Rattle.ch_delivery.specs.Passage.{Item, Created};
@@ -33,6 +36,13 @@ pub fn said_while_down()
 /// what is seen then, where the id is for this pair and epoch, is the passage after the move.
 pub fn said_first_while_down()
     ensures { (names : List Name) → AreApart names → (scene : Scene) (c : ℕ) (name : Name) (conn : ℕ) (said : Message) → SaysFirst names scene c name conn said → IsSaidFirst names scene c name conn said }
+{}
+
+/// A pair with an open connection that is reconnected, while the link isn't up, closes it behind what waits: the node tells
+/// the pair's next epoch and closes the connection, the host keeps the close, and what is seen then is the passage after
+/// the move.
+pub fn reconnected_while_down()
+    ensures { (names : List Name) → AreApart names → (scene : Scene) (c : ℕ) (name : Name) (conn id : ℕ) (table : List Connection) → ReconnectsOpen names scene c name conn id table → IsReconnected names scene c name conn id table }
 {}
 
 /// A link that is up and loses its socket breaks, where the node watches nothing at the peer: the host ends its end, tells
@@ -62,12 +72,13 @@ pub fn fallen_by_a_loss()
     ensures { (names : List Name) (scene : Scene) (sock : ℕ) (probed : Bool) (pairs : List Pair) → FallsOff scene sock probed pairs → IsFallen names scene sock pairs }
 {}
 
-/// What the laws ask can be had: small scenes, in which a first message is said, and a second; the opening and the first
+/// What the laws ask can be had: small scenes, in which a first message is said, and a second, and the pair reconnects; the opening and the first
 /// are read; and the link loses its socket, at either node.
 pub fn scenes()
     ensures apart { AreApart the_names }
     ensures first { SaysFirst the_names at_start 0 the_name 0 hello }
     ensures second { SaysOnOpen the_names (said_once (Dialing 0)) 0 the_name 0 1024 hello }
+    ensures reconnect { ReconnectsOpen the_names (said_once (Dialing 0)) 0 the_name 0 1024 (closed 0 ∷ []) }
     ensures opening { OpensFirst the_names (up_with Unread (Created 0 0 ∷ message_item ∷ [])) the_name (message_item ∷ []) the_opening }
     ensures reading { ReadsFirst the_names (up_with bound_there (message_item ∷ [])) the_name [] the_reading }
     ensures fall { FallsOff (up_with bound_there (message_item ∷ [])) 1 false [] }

@@ -4,7 +4,7 @@ use Rattle.std.specs.Fmt.{digits}
 use Rattle.ch_base.specs.Addresses as addresses
 use Rattle.ch_base.specs.Addresses.{read_address}
 use Rattle.ch_ident.specs.Reading.{piece_at, tested_at, name_at, text_at, long_at, address_at, process_at, identifier_at, opening_at, fields_at, message_at, whole, identifier_of, message_of, user_of, name_of}
-use Rattle.ch_light.specs.Ids.{id_of, opened}
+use Rattle.ch_light.specs.Ids.{close_of, id_of, opened}
 use Rattle.ch_light.specs.declared.Connection.{Connection}
 use Rattle.ch_mail.specs.Mail.{life_of, put_of, given_to, appended, waiting_in}
 use Rattle.ch_watch.specs.Same.{same_node}
@@ -130,3 +130,7 @@ returns-clause-reading z = record {
 pub returns-clause-fall : goal.returns-clause-fall
 unfolding lost_of same_node
 returns-clause-fall z = record { up = refl; pairs_lost = refl; unwatched = refl }
+
+pub returns-clause-reconnect : goal.returns-clause-reconnect
+unfolding life_of pair_of is_pair same_target same_process growing id_of same_node close_of
+returns-clause-reconnect z = record { known = refl; lives = refl; opened = refl; grows = refl; carried = refl; down = refl; closes = refl; used = refl }
