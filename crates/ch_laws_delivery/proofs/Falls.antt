@@ -1,15 +1,14 @@
 -- The receiving node's link that was up and loses its socket forgets all connections, as the passage's move says.
-use Rattle.std.specs.Prelude.{◌≡◌, ℕ, Bool, List, [], ◌∷◌, slice_get, Option, Some, None}
-use Rattle.std.proofs.Common.{refl, ap, sym, ◌∙◌}
+use Rattle.std.specs.Prelude.{◌≡◌, ℕ, Bool, List, slice_get, Option, Some, None}
+use Rattle.std.proofs.Common.{refl}
 use Rattle.ch_static.specs.declared.target.Target.{Target}
 use Rattle.ch_static.specs.declared.target.Target.TheVariants as targets
 use Rattle.ch_watch.specs.Watches.{lost_of, find_of}
-use Rattle.ch_model.specs.NodeState.{NodeState, Pair}
+use Rattle.ch_model.specs.NodeState.{Pair}
 use Rattle.ch_model.specs.NodeIds.{is_own, life_here, is_living, is_port_here}
 use Rattle.ch_model.specs.NodeAsks.{standing}
-use Rattle.ch_delivery.specs.Passage.{Passage}
 use Rattle.ch_delivery.specs.Moves.{Fall, after}
-use Rattle.ch_laws_delivery.specs.Scene.{Name, Party, Scene, link_of}
+use Rattle.ch_laws_delivery.specs.Scene.{Name, Party, Scene}
 use Rattle.ch_laws_delivery.specs.Receiving.{stands_for, standing_for}
 use Rattle.ch_laws_delivery.specs.View.{view}
 use Rattle.ch_laws_delivery.specs.Losses.{node_after}

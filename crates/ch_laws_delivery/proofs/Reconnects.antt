@@ -1,5 +1,5 @@
 -- A pair that is reconnected while the link isn't up closes its connection behind what waits, as the passage's move says.
-use Rattle.std.specs.Prelude.{◌≡◌, ℕ, suc, ◌+◌, Bool, true, false, List, [], ◌∷◌, ◌++◌, map, find, slice_get, option_to_list, Option, Some, None, Result, Ok, Err}
+use Rattle.std.specs.Prelude.{◌≡◌, ℕ, suc, ◌+◌, true, false, List, [], ◌∷◌, ◌++◌, map, find, slice_get, option_to_list, Option, Some, Result, Ok}
 use Rattle.std.proofs.Common.{refl, ap, sym, ◌∙◌, arith}
 use Rattle.std.proofs.lemmas.Grind.{flat_map-append}
 use Rattle.ch_base.specs.AddressValues.{AddressValue}
@@ -13,7 +13,6 @@ use Rattle.ch_wire.specs.declared.frame.Frame.{Frame}
 use Rattle.ch_wire.specs.declared.frame.Frame.TheVariants as frames
 use Rattle.ch_model.specs.declared.act.Act.TheVariants as acts
 use Rattle.ch_model.specs.declared.note.Note.TheVariants as notes
-use Rattle.ch_model.specs.declared.step.EndError.{EndError}
 use Rattle.ch_model.specs.declared.step.Step.{Step}
 use Rattle.ch_model.specs.declared.step.Weight.{Weight}
 use Rattle.ch_model.specs.declared.step.Weight.TheVariants.{Free}
@@ -28,10 +27,10 @@ use Rattle.ch_model.specs.NodeActs.{◌>>=◌, doing, growing}
 use Rattle.ch_model.specs.NodeIds.{process_id}
 use Rattle.ch_model.specs.NodePairs.{next_epoch, conn_of, keeping}
 use Rattle.ch_model.specs.NodeSends.{reconnect}
-use Rattle.ch_delivery.specs.Passage.{Mark, Opened, Unopened, Item, Closed, Again, Passage}
+use Rattle.ch_delivery.specs.Passage.{Mark, Unopened, Item, Closed, Again, Passage}
 use Rattle.ch_delivery.specs.Moves as moves
 use Rattle.ch_delivery.specs.Moves.{Reconnect, put, noted, marked, written, after}
-use Rattle.ch_laws_delivery.specs.Scene.{Name, Use, Party, Scene, link_of}
+use Rattle.ch_laws_delivery.specs.Scene.{Name, Use, Scene, link_of}
 use Rattle.ch_laws_delivery.specs.Sending.{bare, mark_as, has_ended, pair_at, mark_of, epoch_of, index_of, closing, items_in, items_of}
 use Rattle.ch_laws_delivery.specs.View.{view, AreApart}
 use Rattle.ch_laws_delivery.specs.Reconnects.{ReconnectsOpen, next_of, closed_host, reconnected_in, IsReconnected}

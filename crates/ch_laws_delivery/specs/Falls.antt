@@ -1,5 +1,5 @@
 -- The receiving node's link, which was up, loses its socket.
-use Rattle.std.specs.Prelude.{◌≡◌, ℕ, Bool, true, List, [], ◌∷◌, Result, Ok}
+use Rattle.std.specs.Prelude.{◌≡◌, ℕ, Bool, true, List, [], ◌∷◌, Ok}
 use Rattle.ch_base.specs.declared.event.Event.TheVariants as events
 use Rattle.ch_base.specs.declared.event.Why.TheVariants.{Disconnect}
 use Rattle.ch_link.specs.declared.LinkState.TheVariants.{Up}
@@ -12,7 +12,7 @@ use Rattle.ch_model.specs.Node.{node_event}
 use Rattle.ch_watch.specs.Watches.{lost_of}
 use Rattle.ch_delivery.specs.Passage.{Fell}
 use Rattle.ch_delivery.specs.Moves.{Fall, put, after}
-use Rattle.ch_laws_delivery.specs.Scene.{Name, Party, Way, Scene, link_of}
+use Rattle.ch_laws_delivery.specs.Scene.{Name, Scene, link_of}
 use Rattle.ch_laws_delivery.specs.Losses.{host_after, node_after}
 use Rattle.ch_laws_delivery.specs.View.{view}
 

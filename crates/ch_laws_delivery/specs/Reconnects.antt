@@ -1,5 +1,5 @@
 -- A pair with an open connection is reconnected while the link isn't up.
-use Rattle.std.specs.Prelude.{◌≡◌, ℕ, ◌+◌, Bool, false, List, [], ◌∷◌, ◌++◌, find, slice_get, Option, Some, Result, Ok}
+use Rattle.std.specs.Prelude.{◌≡◌, ℕ, ◌+◌, false, List, [], ◌∷◌, ◌++◌, find, slice_get, Some, Ok}
 use Rattle.ch_light.specs.declared.Connection.{Connection}
 use Rattle.ch_light.specs.Ids.{close_of}
 use Rattle.ch_wire.specs.declared.frame.Frame.TheVariants as frames
@@ -18,7 +18,7 @@ use Rattle.ch_model.specs.NodePairs.{keeping}
 use Rattle.ch_model.specs.NodeSends.{reconnect}
 use Rattle.ch_delivery.specs.Passage.{Again}
 use Rattle.ch_delivery.specs.Moves.{Reconnect, after}
-use Rattle.ch_laws_delivery.specs.Scene.{Name, Use, Party, Scene, link_of}
+use Rattle.ch_laws_delivery.specs.Scene.{Name, Scene, link_of}
 use Rattle.ch_laws_delivery.specs.Sending.{has_ended, pair_at, use_at}
 use Rattle.ch_laws_delivery.specs.View.{view}
 
