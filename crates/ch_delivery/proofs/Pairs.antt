@@ -51,7 +51,7 @@ start_pair named c = record {
   clash : false ≡ true → ⊥
   clash h = cc
 
--- what is written
+-- pair d is marked anew, and its items are written
 module _ (c d : ℕ) (items : List Item) (skip : nat_eq d c ≡ false → (s : Ear) → heard c items s ≡ s) (m : Mark) (e k : ℕ) where
   other_way : nat_eq c d ≡ false → nat_eq d c ≡ false
   other_way h = grind (arith, nat_tests)

@@ -9,7 +9,7 @@ use Rattle.ch_delivery.proofs.Links.{by_order}
 none_of : (n : ℕ) → not (nat_eq n 0) ≡ false → n ≡ 0
 none_of n h = grind (arith, nat_tests)
 
--- of an epoch that isn't broken all was meant
+-- where an epoch hasn't broken, all its messages count
 all_meant : (c e : ℕ) (l : List Entry) → has_broken c e l ≡ false → meant c e l ≡ saids c e l
 all_meant c e [] h = refl
 all_meant c e (Broke ∷ l) h = unmeant c e l (none_of (saids c e l) h) ∙ sym (none_of (saids c e l) h)
