@@ -1,0 +1,12 @@
+pub mod Ear
+pub mod Known
+pub mod Links
+pub mod Pairs
+pub mod Sockets
+pub mod Counts
+pub mod Keeps
+pub mod Drains
+pub mod Stood
+pub mod Gets
+pub mod Owed
+pub mod Delivers

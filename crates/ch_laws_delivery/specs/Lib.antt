@@ -1,0 +1,12 @@
+pub mod Scene
+pub mod Sending
+pub mod Receiving
+pub mod View
+pub mod Sends
+pub mod Receipts
+pub mod Openings
+pub mod FirstSends
+pub mod Losses
+pub mod Rows
+pub mod Falls
+pub mod Reconnects
