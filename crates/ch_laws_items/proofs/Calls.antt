@@ -1,5 +1,5 @@
 -- What an endpoint asks of its host leaves no more unread.
-use Rattle.std.proofs.Common.{◌≡◌, ◌≤◌, ℕ, ◌+◌, Bool, true, false, cond, List, [], ◌∷◌, length, Ok, Err, refl, sym, ap, ◌∙◌, subst, ◌==◌, arith}
+use Rattle.std.proofs.Common.{◌≡◌, ℕ, Bool, true, false, cond, List, [], ◌∷◌, Ok, Err, refl, ◌==◌}
 use Rattle.std.specs.Prelude.{find, Result, Option, Some, None}
 use Rattle.ch_base.specs.declared.address.Address.{Address}
 use Rattle.ch_base.specs.declared.event.Event.TheVariants as events
@@ -17,7 +17,7 @@ use Rattle.ch_model.specs.HostWrites.{puts}
 use Rattle.ch_model.specs.HostLinks.{next_dial, hears}
 use Rattle.ch_model.specs.HostItems.{posts}
 use Rattle.ch_model.specs.HostCalls.{◌>>=◌, stepped, of_ids, open_endpoint, wants, puts_and_wants, host_connect, carries, found_or, short_enough, has_room, host_send, host_close, shuts_links, closes_endpoint, host_close_endpoint}
-use Rattle.ch_laws_items.specs.Kept.{KeepsNoMore, AllKeepNoMore, Fine}
+use Rattle.ch_laws_items.specs.Kept.{AllKeepNoMore, Fine}
 use Rattle.ch_laws_items.proofs.Sockets.{same}
 use Rattle.ch_laws_items.proofs.Links.{chained, at_rest, heard, put}
 

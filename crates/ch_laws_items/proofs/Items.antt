@@ -1,5 +1,5 @@
 -- What a host makes of an item that was read leaves no more unread.
-use Rattle.std.proofs.Common.{◌≡◌, ◌≤◌, ℕ, ◌+◌, Bool, true, false, cond, List, [], ◌∷◌, length, Ok, Err, refl, sym, ap, ◌∙◌, subst, arith}
+use Rattle.std.proofs.Common.{◌≡◌, ◌≤◌, ℕ, ◌+◌, Bool, true, false, cond, List, length, Ok, Err, refl}
 use Rattle.std.specs.Prelude.{find, Result, Option, Some, None, nat_lt}
 use Rattle.ch_base.specs.declared.address.Address.{Address}
 use Rattle.ch_base.specs.declared.event.Event.TheVariants as events
@@ -20,7 +20,7 @@ use Rattle.ch_model.specs.HostSteps.{Stepped, still, link_with, with_link, with_
 use Rattle.ch_model.specs.HostWrites.{leaves, answers_and_leaves}
 use Rattle.ch_model.specs.HostLinks.{hears}
 use Rattle.ch_model.specs.HostItems.{most_arrived, posts, gone_from, is_gone, refusal_of, asks_link, reads_request, heard_answer, arrived_at, with_arrival, next_arrival, arrives, closes, receives, reads_frame, reads_on, reads_other, reads}
-use Rattle.ch_laws_items.specs.Kept.{kept_of, kept_at, KeepsNoMore, Fine}
+use Rattle.ch_laws_items.specs.Kept.{kept_at, KeepsNoMore, Fine}
 use Rattle.ch_laws_items.proofs.Sockets.{same, onward, stores, ends}
 use Rattle.ch_laws_items.proofs.Links.{at_rest, answered, heard}
 

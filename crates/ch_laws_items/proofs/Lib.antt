@@ -1,7 +1,7 @@
-mod Sockets
-mod Links
-mod Items
-mod Calls
-mod Next
-mod Cells
-mod Events
+pub mod Sockets
+pub mod Links
+pub mod Items
+pub mod Calls
+pub mod Next
+pub mod Cells
+pub mod Events

@@ -1,7 +1,6 @@
 -- What a host does for its links leaves no more unread.
-use Rattle.std.proofs.Common.{◌≡◌, ◌≤◌, ℕ, ◌+◌, Bool, true, false, cond, List, [], ◌∷◌, ◌++◌, length, Ok, Err, refl, sym, ap, ◌∙◌, subst, arith}
-use Rattle.std.specs.Prelude.{find, Option, Some, None, ◌==◌, nat_lt}
-use Rattle.ch_base.specs.declared.address.Address.{Address}
+use Rattle.std.proofs.Common.{◌≤◌, ℕ, ◌+◌, Bool, true, false, cond, List, [], ◌∷◌, ◌++◌, Ok, Err, refl, arith}
+use Rattle.std.specs.Prelude.{nat_lt}
 use Rattle.ch_base.specs.declared.memory.Stop.TheVariants as stops
 use Rattle.ch_wire.specs.Spelling.{answer_spelling, frame_spelling}
 use Rattle.ch_wire.specs.declared.answer.Answer.TheVariants as answers
@@ -18,11 +17,11 @@ use Rattle.ch_link.specs.declared.LinkAct.TheVariants as acts
 use Rattle.ch_model.specs.declared.step.Step.{Step}
 use Rattle.ch_model.specs.declared.step.Weight.{Weight}
 use Rattle.ch_model.specs.Greater.{is_greater}
-use Rattle.ch_model.specs.HostState.{Link, Socket, HostState}
+use Rattle.ch_model.specs.HostState.{Link, HostState}
 use Rattle.ch_model.specs.HostSteps.{Stepped, still, does, after_steps, ◌then◌, own_address, with_link, with_socket}
-use Rattle.ch_model.specs.HostWrites.{writes, leaves, goes_down, answers_and_leaves, flushes_to, puts, frame_step, forgotten, leaves_off}
+use Rattle.ch_model.specs.HostWrites.{writes, leaves, answers_and_leaves, flushes_to, puts, frame_step, forgotten, leaves_off}
 use Rattle.ch_model.specs.HostLinks.{most_dials, dialed, dials_for, accepts_on, asked_on, wanted_on, fails_with, says_closed, raised, acknowledged, does_act, hears}
-use Rattle.ch_laws_items.specs.Kept.{kept_of, kept_at, KeepsNoMore, Fine}
+use Rattle.ch_laws_items.specs.Kept.{KeepsNoMore, Fine}
 use Rattle.ch_laws_items.proofs.Sockets.{same, onward, stores, ends}
 
 -- steps before what follows change nothing of it

@@ -5,13 +5,11 @@ use Rattle.std.proofs.lemmas.List.{length-drop}
 use Rattle.std.specs.Prelude.{◌-◌, find, Result, Option, Some, None, nat_lt, min}
 use Rattle.ch_base.specs.declared.address.Address.{Address}
 use Rattle.ch_base.specs.declared.memory.Stop.{Stop}
-use Rattle.ch_base.specs.declared.event.Why.TheVariants.{Disconnect}
 use Rattle.ch_reader.specs.declared.item.Expected.{Expected}
 use Rattle.ch_reader.specs.declared.item.Expected.TheVariants as expected
-use Rattle.ch_reader.specs.declared.item.Item.{Item}
 use Rattle.ch_reader.specs.declared.item.Front.{Front}
 use Rattle.ch_reader.specs.declared.item.Front.TheVariants.{Unfinished, Whole, Refused}
-use Rattle.ch_reader.specs.Reading.{header_size, words_glance, glance_at, rest_reading, reading, frame_header_size}
+use Rattle.ch_reader.specs.Reading.{header_size, reading, frame_header_size}
 use Rattle.ch_wire.specs.Spelling.{head_numbered}
 use Rattle.ch_reader.specs.Streams.{first_word}
 use Rattle.ch_wire.specs.declared.frame.Head.{Head}
@@ -20,7 +18,7 @@ use Rattle.ch_link.specs.Sockets.{names}
 use Rattle.ch_link.specs.declared.LinkIn.TheVariants as inputs
 use Rattle.ch_link.specs.declared.LinkState.{LinkState}
 use Rattle.ch_link.specs.declared.LinkState.TheVariants as states
-use Rattle.ch_model.specs.Stages.{Stage, Ended, is_open}
+use Rattle.ch_model.specs.Stages.{Ended, is_open}
 use Rattle.ch_model.specs.declared.step.Step.{Step}
 use Rattle.ch_model.specs.HostState.{Link, Socket, HostState}
 use Rattle.ch_link.specs.Table.{step_of}
@@ -30,7 +28,7 @@ use Rattle.ch_model.specs.HostSteps.{Stepped, after_steps, own_address, is_socke
 use Rattle.ch_model.specs.HostWrites.{ended_in, end_socket, leaves}
 use Rattle.ch_model.specs.HostLinks.{does_act, hears}
 use Rattle.ch_model.specs.HostItems.{gone_from, is_gone, reads}
-use Rattle.ch_model.specs.Host.{front_of, is_ready_front, is_ready, lower, first_ready, takes, handles, some_steps, host_next}
+use Rattle.ch_model.specs.Host.{front_of, is_ready_front, is_ready, lower, first_ready, handles, some_steps, host_next}
 use Rattle.ch_laws_items.specs.Kept.{kept_of, kept_at, Apart, KeepsNoMore, Fine}
 use Rattle.ch_laws_items.proofs.Sockets.{number_is, stored, stores}
 use Rattle.ch_laws_items.proofs.Links.{later, at_rest}
