@@ -1,0 +1,5 @@
+pub mod Outcome
+pub mod Tables
+pub mod Grammars
+pub mod ReadingState
+pub mod Reading
