@@ -112,13 +112,13 @@ then_field {rest} {p} {text} {others} e is more = ap tail (field_found rest p e)
 
 pub no_field : {rest : Option (List ℕ)} {b : Bool} → last_of rest ≡ Ok b → tail rest ≡ []
 unfolding last_of
-no_field {None} {b} e = refl
-no_field {Some text} {b} e = absurd cc
+no_field {rest = None} e = refl
+no_field {rest = Some text} e = absurd cc
 
 pub last_text : {rest : Option (List ℕ)} {text : List ℕ} → text_of rest ≡ Ok text → tail rest ≡ flat_map field (text ∷ [])
 unfolding text_of
-last_text {None} {text} e = absurd cc
-last_text {Some rest} {text} e = ap (λ l. 32 ∷ l) ((needed Form (is_line_text rest) rest text e).1 ∙ sym (append-nil text))
+last_text {rest = None} e = absurd cc
+last_text {rest = Some rest} {text = text} e = ap (λ l. 32 ∷ l) ((needed Form (is_line_text rest) rest text e).1 ∙ sym (append-nil text))
 
 -- ---- plain fields
 
@@ -180,3 +180,109 @@ count_is {text} {digits} {n} e f = digits_is e ∙ by (number_of 4294967295 digi
     by : (o : Option ℕ) → number_of 4294967295 digits ≡ o → at_least 1 o ≡ Some n → digits ≡ decimal n
     by None g h = absurd cc
     by (Some m) g h = sym (number_found 4294967295 m digits (lit< tt) g).0 ∙ ap decimal (one (nat_le 1 m) m h)
+
+-- ---- fields that name
+
+-- a name, such a byte, and the digits of a number
+named_number : (c : ℕ) {text : List ℕ} {p : List ℕ × List ℕ} {name digits : List ℕ} {n : ℕ} → or_else Form (at_byte c text) ≡ Ok p → node_name_of p.0 ≡ Ok name → digits_of p.1 ≡ Ok digits → number_in digits ≡ Ok n → text ≡ name ++ c ∷ decimal n
+named_number c {text} {p} {name} {digits} {n} e f g h = parts_of c text p e ∙ ap (λ l. l ++ c ∷ p.1) (name_is f) ∙ ap (λ l. name ++ c ∷ l) (number_is g h)
+
+-- a process is cut at its dot
+record IsCut (text : List ℕ) (q : List ℕ × List ℕ) : Type 0 where
+  is : text ≡ q.0 ++ 46 ∷ q.1
+
+process_cut : {text : List ℕ} {q : List ℕ × List ℕ} → process_of text ≡ Ok q → IsCut text q
+unfolding process_of
+process_cut {text} {q} e =
+    let a = bind_ok (or_else Form (at_byte 46 text)) _ q e in
+    let b = bind_ok (node_name_of a.0.0) _ q a.2 in
+    let c = bind_ok (digits_of a.0.1) _ q b.2 in
+    let is : (b.0, c.0) ≡ q = cc in
+    subst (IsCut text) is (record { is = parts_of 46 text a.0 a.1 ∙ ap (λ l. l ++ 46 ∷ a.0.1) (name_is b.1) ∙ ap (λ l. b.0 ++ 46 ∷ l) (digits_is c.1) })
+
+numbered_is : {q : List ℕ × List ℕ} {p : ProcName} → numbered q ≡ Ok p → q.0 ++ 46 ∷ q.1 ≡ process_text p
+unfolding numbered
+numbered_is {q} {p} e =
+    let a = bind_ok (number_in q.1) _ p e in
+    let made : ProcName = record { node = q.0; counter = a.0 } in
+    let is : made ≡ p = cc in
+    ap (λ l. q.0 ++ 46 ∷ l) (in_range a.1) ∙ ap process_text is
+
+pub process_is : {text : List ℕ} {q : List ℕ × List ℕ} {p : ProcName} → process_of text ≡ Ok q → numbered q ≡ Ok p → text ≡ process_text p
+process_is e f = (process_cut e).is ∙ numbered_is f
+
+pub named_is : {text : List ℕ} {target : TargetName} → named_of text ≡ Ok target → text ≡ target_text target
+unfolding named_of
+named_is {text} {target} e =
+    let a = bind_ok (or_else Form (at_byte 58 text)) _ target e in
+    let b = bind_ok (node_name_of a.0.0) _ target a.2 in
+    let c = bind_ok (word_of a.0.1) _ target b.2 in
+    let made : TargetName = Named b.0 c.0 in
+    let is : made ≡ target = accepted_is made target c.2 in
+    parts_of 58 text a.0 a.1 ∙ ap (λ l. l ++ 58 ∷ a.0.1) (name_is b.1) ∙ ap (λ l. b.0 ++ 58 ∷ l) (word_is c.1) ∙ ap target_text is
+
+pub reference_is : {text : List ℕ} {q : List ℕ × List ℕ} {r : RefName} → reference_of text ≡ Ok q → numbered_reference q ≡ Ok r → text ≡ reference_text r
+unfolding reference_of numbered_reference
+reference_is {text} {q} {r} e f =
+    let a = bind_ok (or_else Form (at_byte 33 text)) _ q e in
+    let b = bind_ok (node_name_of a.0.0) _ q a.2 in
+    let c = bind_ok (digits_of a.0.1) _ q b.2 in
+    let cut : (b.0, c.0) ≡ q = cc in
+    let n = bind_ok (number_in q.1) _ r f in
+    let made : RefName = record { node = q.0; number = n.0 } in
+    let is : made ≡ r = cc in
+    parts_of 33 text a.0 a.1 ∙ ap (λ l. l ++ 33 ∷ a.0.1) (name_is b.1) ∙ ap (λ l. b.0 ++ 33 ∷ l) (digits_is c.1)
+    ∙ ap (λ (t : List ℕ × List ℕ). t.0 ++ 33 ∷ t.1) cut ∙ ap (λ l. q.0 ++ 33 ∷ l) (in_range n.1) ∙ ap reference_text is
+
+pub socket_is : {text : List ℕ} {q : List ℕ × List ℕ × List ℕ} {s : SockName} → socket_of text ≡ Ok q → numbered_socket q ≡ Ok s → text ≡ socket_text s
+unfolding socket_of numbered_socket
+socket_is {text} {q} {s} e f =
+    let a = bind_ok (or_else Form (at_byte 62 text)) _ q e in
+    let b = bind_ok (node_name_of a.0.0) _ q a.2 in
+    let c = bind_ok (process_of a.0.1) _ q b.2 in
+    let d = bind_ok (need Form (not (bytes_eq b.0 c.0.0)) c.0.0) _ q c.2 in
+    let cut : (b.0, d.0, c.0.1) ≡ q = cc in
+    let n = bind_ok (number_in q.2) _ s f in
+    let made : SockName = record { from = q.0; to = q.1; number = n.0 } in
+    let is : made ≡ s = cc in
+    parts_of 62 text a.0 a.1 ∙ ap (λ l. l ++ 62 ∷ a.0.1) (name_is b.1) ∙ ap (λ l. b.0 ++ 62 ∷ l) ((process_cut c.1).is ∙ ap (λ l. l ++ 46 ∷ c.0.1) (needed_is d.1))
+    ∙ ap (λ (t : List ℕ × List ℕ × List ℕ). t.0 ++ 62 ∷ (t.1 ++ 46 ∷ t.2)) cut ∙ ap (λ l. q.0 ++ 62 ∷ (q.1 ++ 46 ∷ l)) (in_range n.1) ∙ ap socket_text is
+
+-- ---- destinations
+
+-- the text of a process or a port by its digits
+cut_text : List ℕ × List ℕ → Option (List ℕ) → List ℕ
+cut_text q None = q.0 ++ 46 ∷ q.1
+cut_text q (Some port) = (q.0 ++ 46 ∷ q.1) ++ 47 ∷ port
+
+destination_cut : {text : List ℕ} {d : (List ℕ × List ℕ) × Option (List ℕ)} → destination_of text ≡ Ok d → text ≡ cut_text d.0 d.1
+unfolding destination_of destination_parts
+destination_cut {text} {d} e = by (at_byte 47 text) refl e
+  where
+    by : (o : Option (List ℕ × List ℕ)) → at_byte 47 text ≡ o → destination_parts text o ≡ Ok d → text ≡ cut_text d.0 d.1
+    by None f g =
+        let a = bind_ok (process_of text) _ d g in
+        let is : (a.0, None) ≡ d = accepted_is _ d a.2 in
+        (process_cut a.1).is ∙ ap (λ (t : (List ℕ × List ℕ) × Option (List ℕ)). cut_text t.0 t.1) is
+    by (Some p) f g =
+        let a = bind_ok (process_of p.0) _ d g in
+        let b = bind_ok (digits_of p.1) _ d a.2 in
+        let is : (a.0, Some b.0) ≡ d = accepted_is _ d b.2 in
+        (cut_at 47 text p f).is ∙ ap (λ l. l ++ 47 ∷ p.1) (process_cut a.1).is ∙ ap (λ l. (a.0.0 ++ 46 ∷ a.0.1) ++ 47 ∷ l) (digits_is b.1)
+        ∙ ap (λ (t : (List ℕ × List ℕ) × Option (List ℕ)). cut_text t.0 t.1) is
+
+target_is : {q : List ℕ × List ℕ} {port : Option (List ℕ)} {p : ProcName} {target : TargetName} → numbered q ≡ Ok p → numbered_target p port ≡ Ok target → cut_text q port ≡ target_text target
+unfolding numbered_target
+target_is {q = q} {port = None} {p = p} {target = target} e f =
+    let is : Process p ≡ target = accepted_is _ target f in
+    numbered_is e ∙ ap target_text is
+target_is {q = q} {port = Some digits} {p = p} {target = target} e f =
+    let a = bind_ok (number_in digits) _ target f in
+    let is : Port p a.0 ≡ target = accepted_is _ target a.2 in
+    ap (λ l. l ++ 47 ∷ digits) (numbered_is e) ∙ ap (λ l. process_text p ++ 47 ∷ l) (in_range a.1) ∙ ap target_text is
+
+pub destination_is : {text : List ℕ} {d : (List ℕ × List ℕ) × Option (List ℕ)} {target : TargetName} → destination_of text ≡ Ok d → numbered_destination d ≡ Ok target → text ≡ target_text target
+unfolding numbered_destination
+destination_is {text} {d} {target} e f =
+    let a = bind_ok (numbered d.0) _ target f in
+    destination_cut e ∙ target_is a.1 a.2

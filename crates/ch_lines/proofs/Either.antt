@@ -50,3 +50,11 @@ any_takes address (what ∷ whats) =
     ap (λ b. b || list_any (takes_address address) whats) (takes address what)
     ∙ ap (λ b. (declares_address address what || declares_guest address.host what) || b) (any_takes address whats)
     ∙ four (declares_address address what) (declares_guest address.host what) (list_any (declares_address address) whats) (list_any (declares_guest address.host) whats)
+
+-- what was answered where the first of two tests holds
+pub by_first : {asked first either : Bool} (second : Bool) → asked ≡ true → asked ≡ first → either ≡ (first || second) → asked ≡ either
+by_first {asked} {first} {either} second holds is all = holds ∙ ap (λ b. b || second) (sym holds ∙ is) ∙ sym all
+
+-- and where it doesn't
+pub by_second : {asked other first either : Bool} (second : Bool) → asked ≡ false → asked ≡ first → other ≡ second → either ≡ (first || second) → other ≡ either
+by_second {asked} {other} {first} {either} second fails is more all = more ∙ ap (λ b. b || second) (sym fails ∙ is) ∙ sym all

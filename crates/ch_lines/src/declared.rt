@@ -131,7 +131,6 @@ impl Declared {
     }
 
     /// Whether a node or another address has this name.
-    #[tactic(auto, using(crate::proofs::Either::any_peer))]
     pub(crate) fn has_peer(&self, name: &[u8]) -> bool
         ensures { result ≡ list_any (λ what. declares_node name.now what || declares_away name.now what) self.now }
     {
@@ -139,7 +138,6 @@ impl Declared {
     }
 
     /// Whether one who opens sockets has this name: a node or a stranger.
-    #[tactic(auto, using(crate::proofs::Either::any_opener))]
     pub(crate) fn has_opener(&self, name: &[u8]) -> bool
         ensures { result ≡ list_any (λ what. declares_node name.now what || declares_stranger name.now what) self.now }
     {
@@ -155,7 +153,6 @@ impl Declared {
     }
 
     /// Whether a name has this address, or a stranger its host.
-    #[tactic(auto, using(crate::proofs::Either::any_takes))]
     pub(crate) fn takes_address(&self, address: &Address) -> Result<bool, OutOfMemory>
         ensures { IfOk result (λ takes. takes ≡ list_any (takes_address address.now) self.now) }
     {
