@@ -4,3 +4,4 @@ pub mod Shapes
 pub mod Lines
 pub mod Spelled
 pub mod Respelled
+pub mod WholeLines

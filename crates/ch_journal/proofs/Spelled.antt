@@ -24,7 +24,7 @@ use Rattle.ch_model.specs.declared.name.TargetName.TheVariants.{Process, Port, N
 use Rattle.ch_model.specs.Fields.{need, or_else, at_byte, up_to_space, field_of, last_of, is_node_name_of, node_name_of, digits_of, word_of, sent_mark_of, begins_with_dollar, read_as, address_of, host_of, end_of, is_line_text, text_of, number_in, count_in}
 use Rattle.ch_model.specs.FieldsOfNames.{process_of, destination_parts, destination_of, named_of, reference_of, socket_of, numbered, numbered_target, numbered_destination, numbered_reference, numbered_socket}
 use Rattle.ch_model.specs.SpellingFields.{field, process_text, target_text, reference_text, socket_text, end_text}
-use Rattle.ch_journal.proofs.Parts.{lacks, field_again, field_alone, needed, bind_ok, accepted_is}
+use Rattle.ch_journal.proofs.Parts.{lacks, field_again, field_alone, needed, bind_ok, accepts, accepted_is}
 
 -- what follows a field, with its space
 abbrev pub tail : Option (List ℕ) → List ℕ
@@ -92,7 +92,7 @@ unfolding field_of
 field_found None p e = absurd cc
 field_found (Some text) p e = by (at_byte 32 text) refl e
   where
-    by : (o : Option (List ℕ × List ℕ)) → at_byte 32 text ≡ o → Ok (up_to_space text o) ≡ Ok p → IsField (Some text) p
+    by : (o : Option (List ℕ × List ℕ)) → at_byte 32 text ≡ o → accepts (up_to_space text o) ≡ accepts p → IsField (Some text) p
     by None f g =
         let is : (text, None) ≡ p = accepted_is _ p g in
         subst (IsField (Some text)) is (record { is = ap Some (sym (append-nil text)); free = none_at 32 text f })
@@ -107,18 +107,18 @@ field_before front None h = ap (λ l. field_of (Some l)) (append-nil front) ∙ 
 field_before front (Some rest) h = field_again front rest h
 
 -- a field with what it spells, before the fields that follow
-pub then_field : {rest : Option (List ℕ)} {p : List ℕ × Option (List ℕ)} {text : List ℕ} {others : List (List ℕ)} → field_of rest ≡ Ok p → p.0 ≡ text → tail p.1 ≡ flat_map field others → tail rest ≡ flat_map field (text ∷ others)
-then_field {rest} {p} {text} {others} e is more = ap tail (field_found rest p e).is ∙ ap (λ l. 32 ∷ (p.0 ++ l)) more ∙ ap (λ l. 32 ∷ (l ++ flat_map field others)) is
+pub then_field : (rest : Option (List ℕ)) (others : List (List ℕ)) {p : List ℕ × Option (List ℕ)} {text : List ℕ} → field_of rest ≡ Ok p → p.0 ≡ text → tail p.1 ≡ flat_map field others → tail rest ≡ flat_map field (text ∷ others)
+then_field rest others {p} {text} e is more = ap tail (field_found rest p e).is ∙ ap (λ l. 32 ∷ (p.0 ++ l)) more ∙ ap (λ l. 32 ∷ (l ++ flat_map field others)) is
 
-pub no_field : {rest : Option (List ℕ)} {b : Bool} → last_of rest ≡ Ok b → tail rest ≡ []
+pub no_field : (rest : Option (List ℕ)) {b : Bool} → last_of rest ≡ Ok b → tail rest ≡ []
 unfolding last_of
-no_field {rest = None} e = refl
-no_field {rest = Some text} e = absurd cc
+no_field None e = refl
+no_field (Some text) e = absurd cc
 
-pub last_text : {rest : Option (List ℕ)} {text : List ℕ} → text_of rest ≡ Ok text → tail rest ≡ flat_map field (text ∷ [])
+pub last_text : (rest : Option (List ℕ)) {text : List ℕ} → text_of rest ≡ Ok text → tail rest ≡ flat_map field (text ∷ [])
 unfolding text_of
-last_text {rest = None} e = absurd cc
-last_text {rest = Some rest} {text = text} e = ap (λ l. 32 ∷ l) ((needed Form (is_line_text rest) rest text e).1 ∙ sym (append-nil text))
+last_text None e = absurd cc
+last_text (Some rest) {text} e = ap (λ l. 32 ∷ l) ((needed Form (is_line_text rest) rest text e).1 ∙ sym (append-nil text))
 
 -- ---- plain fields
 
@@ -126,20 +126,20 @@ pub name_is : {text name : List ℕ} → node_name_of text ≡ Ok name → text 
 unfolding node_name_of
 name_is {text} {name} e = (needed Form (is_node_name_of text) text name e).1
 
-pub needed_is : {A : Type 0} {k : BadKind} {t : Bool} {x y : A} → need k t x ≡ Ok y → x ≡ y
-needed_is {A} {k} {t} {x} {y} e = (needed k t x y e).1
+pub needed_is : {A : Type 0} (k : BadKind) (t : Bool) {x y : A} → need k t x ≡ Ok y → x ≡ y
+needed_is k t {x} {y} e = (needed k t x y e).1
 
 pub word_is : {text word : List ℕ} → word_of text ≡ Ok word → text ≡ word
 unfolding word_of
-word_is e = needed_is e
+word_is e = needed_is _ _ e
 
 pub mark_is : {text word : List ℕ} → sent_mark_of text ≡ Ok word → text ≡ word
 unfolding sent_mark_of
-mark_is {text} {word} e = let a = bind_ok (word_of text) _ word e in word_is a.1 ∙ needed_is a.2
+mark_is {text} {word} e = let a = bind_ok (word_of text) _ word e in word_is a.1 ∙ needed_is _ _ a.2
 
 pub host_is : {text host : List ℕ} → host_of text ≡ Ok host → text ≡ host
 unfolding host_of
-host_is e = needed_is e
+host_is e = needed_is _ _ e
 
 pub address_is : {text : List ℕ} {address : AddressValue} → address_of text ≡ Ok address → text ≡ address_text address
 unfolding address_of
@@ -160,7 +160,7 @@ end_is {text} {end} e = by (bytes_eq text (codes "o")) refl (bytes_eq text (code
 
 digits_is : {text digits : List ℕ} → digits_of text ≡ Ok digits → text ≡ digits
 unfolding digits_of
-digits_is e = needed_is e
+digits_is e = needed_is _ _ e
 
 in_range : {digits : List ℕ} {n : ℕ} → number_in digits ≡ Ok n → digits ≡ decimal n
 unfolding number_in
@@ -200,16 +200,16 @@ process_cut {text} {q} e =
     let is : (b.0, c.0) ≡ q = cc in
     subst (IsCut text) is (record { is = parts_of 46 text a.0 a.1 ∙ ap (λ l. l ++ 46 ∷ a.0.1) (name_is b.1) ∙ ap (λ l. b.0 ++ 46 ∷ l) (digits_is c.1) })
 
-numbered_is : {q : List ℕ × List ℕ} {p : ProcName} → numbered q ≡ Ok p → q.0 ++ 46 ∷ q.1 ≡ process_text p
+numbered_is : (q : List ℕ × List ℕ) {p : ProcName} → numbered q ≡ Ok p → q.0 ++ 46 ∷ q.1 ≡ process_text p
 unfolding numbered
-numbered_is {q} {p} e =
+numbered_is q {p} e =
     let a = bind_ok (number_in q.1) _ p e in
     let made : ProcName = record { node = q.0; counter = a.0 } in
     let is : made ≡ p = cc in
     ap (λ l. q.0 ++ 46 ∷ l) (in_range a.1) ∙ ap process_text is
 
 pub process_is : {text : List ℕ} {q : List ℕ × List ℕ} {p : ProcName} → process_of text ≡ Ok q → numbered q ≡ Ok p → text ≡ process_text p
-process_is e f = (process_cut e).is ∙ numbered_is f
+process_is e f = (process_cut e).is ∙ numbered_is _ f
 
 pub named_is : {text : List ℕ} {target : TargetName} → named_of text ≡ Ok target → text ≡ target_text target
 unfolding named_of
@@ -245,7 +245,7 @@ socket_is {text} {q} {s} e f =
     let n = bind_ok (number_in q.2) _ s f in
     let made : SockName = record { from = q.0; to = q.1; number = n.0 } in
     let is : made ≡ s = cc in
-    parts_of 62 text a.0 a.1 ∙ ap (λ l. l ++ 62 ∷ a.0.1) (name_is b.1) ∙ ap (λ l. b.0 ++ 62 ∷ l) ((process_cut c.1).is ∙ ap (λ l. l ++ 46 ∷ c.0.1) (needed_is d.1))
+    parts_of 62 text a.0 a.1 ∙ ap (λ l. l ++ 62 ∷ a.0.1) (name_is b.1) ∙ ap (λ l. b.0 ++ 62 ∷ l) ((process_cut c.1).is ∙ ap (λ l. l ++ 46 ∷ c.0.1) (needed_is _ _ d.1))
     ∙ ap (λ (t : List ℕ × List ℕ × List ℕ). t.0 ++ 62 ∷ (t.1 ++ 46 ∷ t.2)) cut ∙ ap (λ l. q.0 ++ 62 ∷ (q.1 ++ 46 ∷ l)) (in_range n.1) ∙ ap socket_text is
 
 -- ---- destinations
@@ -271,18 +271,18 @@ destination_cut {text} {d} e = by (at_byte 47 text) refl e
         (cut_at 47 text p f).is ∙ ap (λ l. l ++ 47 ∷ p.1) (process_cut a.1).is ∙ ap (λ l. (a.0.0 ++ 46 ∷ a.0.1) ++ 47 ∷ l) (digits_is b.1)
         ∙ ap (λ (t : (List ℕ × List ℕ) × Option (List ℕ)). cut_text t.0 t.1) is
 
-target_is : {q : List ℕ × List ℕ} {port : Option (List ℕ)} {p : ProcName} {target : TargetName} → numbered q ≡ Ok p → numbered_target p port ≡ Ok target → cut_text q port ≡ target_text target
+target_is : (q : List ℕ × List ℕ) (port : Option (List ℕ)) {p : ProcName} {target : TargetName} → numbered q ≡ Ok p → numbered_target p port ≡ Ok target → cut_text q port ≡ target_text target
 unfolding numbered_target
-target_is {q = q} {port = None} {p = p} {target = target} e f =
+target_is q None {p} {target} e f =
     let is : Process p ≡ target = accepted_is _ target f in
-    numbered_is e ∙ ap target_text is
-target_is {q = q} {port = Some digits} {p = p} {target = target} e f =
+    numbered_is q e ∙ ap target_text is
+target_is q (Some digits) {p} {target} e f =
     let a = bind_ok (number_in digits) _ target f in
     let is : Port p a.0 ≡ target = accepted_is _ target a.2 in
-    ap (λ l. l ++ 47 ∷ digits) (numbered_is e) ∙ ap (λ l. process_text p ++ 47 ∷ l) (in_range a.1) ∙ ap target_text is
+    ap (λ l. l ++ 47 ∷ digits) (numbered_is q e) ∙ ap (λ l. process_text p ++ 47 ∷ l) (in_range a.1) ∙ ap target_text is
 
 pub destination_is : {text : List ℕ} {d : (List ℕ × List ℕ) × Option (List ℕ)} {target : TargetName} → destination_of text ≡ Ok d → numbered_destination d ≡ Ok target → text ≡ target_text target
 unfolding numbered_destination
 destination_is {text} {d} {target} e f =
     let a = bind_ok (numbered d.0) _ target f in
-    destination_cut e ∙ target_is a.1 a.2
+    destination_cut e ∙ target_is _ _ a.1 a.2

@@ -1,4 +1,3 @@
-pub mod Outcome
 pub mod Tables
 pub mod Grammars
 pub mod ReadingState

@@ -7,13 +7,14 @@ ghost use Rattle.std.specs.Prelude.{◌≡◌};
 ghost use Rattle.std.specs.Option.{option_map};
 ghost use Rattle.ch_model.specs.LinesOfProcesses.{process_alone, process_and_word, proc_line, send_line, nsend_line, again_line, recv_line, port_line, take_line, end_line, fail_line, fall_line, register_line, unregister_line};
 ghost use Rattle.ch_model.specs.LinesBuilt.{send_process_line};
-ghost use Rattle.ch_lines.specs.Outcome.{Gives};
+ghost use Rattle.ch_fields.specs.Outcome.{Gives};
 
-use crate::fault::Fault;
-use crate::field::{bytes, digits, field, last, node_name, number, sent_mark, text, word};
 use crate::known::Known;
-use crate::name_field::{destination, named, numbered, numbered_destination, process, target_node};
 use ch_base::Text;
+use ch_fields::{
+    Fault, bytes, destination, digits, field, last, named, node_name, number, numbered,
+    numbered_destination, process, sent_mark, target_node, text, word,
+};
 use ch_ident::Name;
 use ch_model::{ProcName, TargetName, What};
 use std::alloc::Global;

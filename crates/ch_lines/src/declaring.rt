@@ -7,12 +7,11 @@ ghost use Rattle.std.specs.Prelude.{◌≡◌};
 ghost use Rattle.std.specs.Option.{option_map};
 ghost use Rattle.ch_model.specs.LinesDeclared.{place_line, node_line, away_line, label_line, stranger_line};
 ghost use Rattle.ch_model.specs.LinesBuilt.{only_node_line};
-ghost use Rattle.ch_lines.specs.Outcome.{Gives};
+ghost use Rattle.ch_fields.specs.Outcome.{Gives};
 
-use crate::fault::Fault;
-use crate::field::{address, digits, field, host, last, node_name, number, word};
 use crate::known::Known;
 use ch_base::{Address, Text};
+use ch_fields::{Fault, address, digits, field, host, last, node_name, number, word};
 use ch_model::What;
 use std::alloc::Global;
 

@@ -5,13 +5,13 @@
 ghost use Rattle.std.specs.Prelude.{◌≡◌};
 ghost use Rattle.std.specs.Option.{option_map};
 ghost use Rattle.ch_model.specs.LinesOfSockets.{socket_alone, socket_and_end, shut_line, join_line, come_line, refuse_line, feed_line, cut_line, lose_line, late_line, knock_line, poke_line, quit_line, settle_line};
-ghost use Rattle.ch_lines.specs.Outcome.{Gives};
+ghost use Rattle.ch_fields.specs.Outcome.{Gives};
 
-use crate::fault::Fault;
-use crate::field::{apart, bytes, count, digits, end, field, last, node_name};
 use crate::known::Known;
-use crate::name_field::{numbered_socket, socket};
 use ch_base::Text;
+use ch_fields::{
+    Fault, apart, bytes, count, digits, end, field, last, node_name, numbered_socket, socket,
+};
 use ch_model::{End, SockName, What};
 use std::alloc::Global;
 

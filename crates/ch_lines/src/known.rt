@@ -8,11 +8,11 @@ ghost use Rattle.ch_model.specs.declared.refusal.BadKind.TheVariants.{Form};
 ghost use Rattle.ch_model.specs.Fields.{need};
 ghost use Rattle.ch_model.specs.LinesTold.{untold, is_declaration as is_declaration_of, told_after, declares_node, declares_away, declares_stranger, declares_name as declares_name_of, takes_address as takes_address_of, early_in, declared_in, peer_in, stranger_in, opener_in, new_name as new_name_in, new_address as new_address_in, new_host as new_host_in, new_label as new_label_in};
 ghost use Rattle.ch_model.specs.LinesBuilt.{is_bare as is_bare_of};
-ghost use Rattle.ch_lines.specs.Outcome.{Gives};
+ghost use Rattle.ch_fields.specs.Outcome.{Gives};
 
 use crate::declared::Declared;
-use crate::fault::Fault;
 use ch_base::{Address, OutOfMemory};
+use ch_fields::Fault;
 use ch_ident::Name;
 use ch_model::{BadKind, What};
 use std::alloc::Global;

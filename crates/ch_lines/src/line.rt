@@ -7,12 +7,11 @@ ghost use Rattle.std.specs.Option.{option_map};
 ghost use Rattle.ch_model.specs.LinesBuilt.{one_node};
 ghost use Rattle.ch_model.specs.Lines.{whole, happening, line_of_word, line_said, says_nothing as says_nothing_of, said_and_told, read_header, read_line};
 ghost use Rattle.ch_lines.specs.Grammars.{built_of, from_acting, from_watching};
-ghost use Rattle.ch_lines.specs.Outcome.{Gives, Fails};
+ghost use Rattle.ch_fields.specs.Outcome.{Gives, Fails};
 
-use crate::fault::Fault;
-use crate::field::field;
 use crate::grammar::Grammar;
 use crate::known::Known;
+use ch_fields::{Fault, field};
 use ch_model::{BadKind, What};
 use std::alloc::Global;
 

@@ -6,9 +6,9 @@ ghost use Rattle.std.specs.Prelude.{◌≡◌};
 ghost use Rattle.ch_lines.specs.ReadingState.{ReadingState, unread};
 ghost use Rattle.ch_lines.specs.Reading.{Answers, read_on, numbered_line as numbered_line_of};
 
-use crate::fault::Fault;
 use crate::grammar::Grammar;
 use crate::known::Known;
+use ch_fields::Fault;
 use ch_model::{BadKind, Line, What};
 use std::alloc::Global;
 use std::marker::Model;

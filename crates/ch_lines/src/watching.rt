@@ -6,13 +6,14 @@
 ghost use Rattle.std.specs.Prelude.{◌≡◌};
 ghost use Rattle.std.specs.Option.{option_map};
 ghost use Rattle.ch_model.specs.LinesOfPeers.{process_and_peer, process_peer_and_text, monitor_line, link_line, unwatch_line, exit_line, kill_line, spawn_line, whereis_line};
-ghost use Rattle.ch_lines.specs.Outcome.{Gives};
+ghost use Rattle.ch_fields.specs.Outcome.{Gives};
 
-use crate::fault::Fault;
-use crate::field::{bytes, field, last, node_name, text, word};
 use crate::known::Known;
-use crate::name_field::{numbered, numbered_reference, process, reference};
 use ch_base::Text;
+use ch_fields::{
+    Fault, bytes, field, last, node_name, numbered, numbered_reference, process, reference, text,
+    word,
+};
 use ch_model::{ProcName, What};
 use std::alloc::Global;
 

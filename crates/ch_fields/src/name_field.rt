@@ -6,17 +6,17 @@
 ghost use Rattle.std.specs.Prelude.{◌≡◌};
 ghost use Rattle.std.specs.Option.{option_map};
 ghost use Rattle.ch_model.specs.FieldsOfNames.{process_of, destination_of, named_of, reference_of, socket_of, numbered as numbered_of, numbered_target as numbered_target_of, numbered_destination as numbered_destination_of, numbered_reference as numbered_reference_of, numbered_socket as numbered_socket_of, target_node as target_node_of};
-ghost use Rattle.ch_lines.specs.Outcome.{Gives};
+ghost use Rattle.ch_fields.specs.Outcome.{Gives};
 
 use crate::fault::Fault;
-use crate::field::{apart, digits, node_name, number, split_at_byte, word};
+use crate::plain_field::{apart, digits, node_name, number, split_at_byte, word};
 use ch_base::Text;
 use ch_model::{BadKind, ProcName, RefName, SockName, TargetName};
 use std::alloc::Global;
 
 /// A process: a node's name, a dot and digits.
 #[tactic(auto, unfolding(ch_model::specs::FieldsOfNames::process_of))]
-pub(crate) fn process(field: &[u8]) -> Result<(&[u8], &[u8]), Fault>
+pub fn process(field: &[u8]) -> Result<(&[u8], &[u8]), Fault>
     ensures { Gives (λ p. (p.0.now, p.1.now)) result (process_of field.now) }
 {
     let (name, number) = split_at_byte(b'.', field).ok_or(Fault::Bad(BadKind::Form))?;
@@ -27,7 +27,7 @@ pub(crate) fn process(field: &[u8]) -> Result<(&[u8], &[u8]), Fault>
 
 /// A destination: a process, or a process, a slash and the digits of its port.
 #[tactic(auto, unfolding(ch_model::specs::FieldsOfNames::destination_of, ch_model::specs::FieldsOfNames::destination_parts))]
-pub(crate) fn destination(field: &[u8]) -> Result<((&[u8], &[u8]), Option<&[u8]>), Fault>
+pub fn destination(field: &[u8]) -> Result<((&[u8], &[u8]), Option<&[u8]>), Fault>
     ensures { Gives (λ p. ((p.0.0.now, p.0.1.now), option_map (λ r. r.now) p.1)) result (destination_of field.now) }
 {
     match split_at_byte(b'/', field) {
@@ -45,7 +45,7 @@ pub(crate) fn destination(field: &[u8]) -> Result<((&[u8], &[u8]), Option<&[u8]>
 
 /// A named target: a node's name, a colon and a word.
 #[tactic(auto, unfolding(ch_model::specs::FieldsOfNames::named_of))]
-pub(crate) fn named(alloc: Global, field: &[u8]) -> Result<TargetName, Fault>
+pub fn named(alloc: Global, field: &[u8]) -> Result<TargetName, Fault>
     ensures { Gives (λ x. x) result (named_of field.now) }
 {
     let (node, name) = split_at_byte(b':', field).ok_or(Fault::Bad(BadKind::Form))?;
@@ -59,7 +59,7 @@ pub(crate) fn named(alloc: Global, field: &[u8]) -> Result<TargetName, Fault>
 
 /// A reference: a node's name, an exclamation mark and digits.
 #[tactic(auto, unfolding(ch_model::specs::FieldsOfNames::reference_of))]
-pub(crate) fn reference(field: &[u8]) -> Result<(&[u8], &[u8]), Fault>
+pub fn reference(field: &[u8]) -> Result<(&[u8], &[u8]), Fault>
     ensures { Gives (λ p. (p.0.now, p.1.now)) result (reference_of field.now) }
 {
     let (name, number) = split_at_byte(b'!', field).ok_or(Fault::Bad(BadKind::Form))?;
@@ -70,7 +70,7 @@ pub(crate) fn reference(field: &[u8]) -> Result<(&[u8], &[u8]), Fault>
 
 /// A socket: two different names with `>` between them, a dot and digits.
 #[tactic(auto, unfolding(ch_model::specs::FieldsOfNames::socket_of))]
-pub(crate) fn socket(field: &[u8]) -> Result<(&[u8], &[u8], &[u8]), Fault>
+pub fn socket(field: &[u8]) -> Result<(&[u8], &[u8], &[u8]), Fault>
     ensures { Gives (λ p. (p.0.now, p.1.now, p.2.now)) result (socket_of field.now) }
 {
     let (from, rest) = split_at_byte(b'>', field).ok_or(Fault::Bad(BadKind::Form))?;
@@ -82,7 +82,7 @@ pub(crate) fn socket(field: &[u8]) -> Result<(&[u8], &[u8], &[u8]), Fault>
 
 /// A process whose number is in its range.
 #[tactic(auto, unfolding(ch_model::specs::FieldsOfNames::numbered))]
-pub(crate) fn numbered(alloc: Global, name: &[u8], digits: &[u8]) -> Result<ProcName, Fault>
+pub fn numbered(alloc: Global, name: &[u8], digits: &[u8]) -> Result<ProcName, Fault>
     ensures { Gives (λ x. x) result (numbered_of (name.now, digits.now)) }
 {
     let counter = number(digits)?;
@@ -108,7 +108,7 @@ fn numbered_target(process: ProcName, port: Option<&[u8]>) -> Result<TargetName,
 
 /// A destination whose numbers are in their range.
 #[tactic(auto, unfolding(ch_model::specs::FieldsOfNames::numbered_destination))]
-pub(crate) fn numbered_destination(
+pub fn numbered_destination(
     alloc: Global,
     name: &[u8],
     digits: &[u8],
@@ -122,11 +122,7 @@ pub(crate) fn numbered_destination(
 
 /// A reference whose number is in its range.
 #[tactic(auto, unfolding(ch_model::specs::FieldsOfNames::numbered_reference))]
-pub(crate) fn numbered_reference(
-    alloc: Global,
-    name: &[u8],
-    digits: &[u8],
-) -> Result<RefName, Fault>
+pub fn numbered_reference(alloc: Global, name: &[u8], digits: &[u8]) -> Result<RefName, Fault>
     ensures { Gives (λ x. x) result (numbered_reference_of (name.now, digits.now)) }
 {
     let number = number(digits)?;
@@ -138,7 +134,7 @@ pub(crate) fn numbered_reference(
 
 /// A socket whose number is in its range.
 #[tactic(auto, unfolding(ch_model::specs::FieldsOfNames::numbered_socket))]
-pub(crate) fn numbered_socket(
+pub fn numbered_socket(
     alloc: Global,
     from: &[u8],
     to: &[u8],
@@ -155,7 +151,7 @@ pub(crate) fn numbered_socket(
 }
 
 /// The node of a target.
-pub(crate) fn target_node(target: &TargetName) -> &[u8]
+pub fn target_node(target: &TargetName) -> &[u8]
     ensures { result.now ≡ target_node_of target.now }
 {
     match target {

@@ -12,7 +12,7 @@ ghost use Rattle.ch_base.specs.Addresses.{is_host_byte_of, is_host_of};
 ghost use Rattle.ch_ident.specs.Names.{is_printable as is_printable_of};
 ghost use Rattle.ch_model.specs.declared.refusal.BadKind.TheVariants.{Form};
 ghost use Rattle.ch_model.specs.Fields.{need, at_byte, field_of, last_of, is_letter_of, is_name_byte_of, begins_with_letter as begins_with_letter_of, begins_with_dollar as begins_with_dollar_of, is_dash as is_dash_of, is_node_name_of, node_name_of, digits_of, word_of, sent_mark_of, bytes_of, address_of, host_of, end_of, is_line_text as is_line_text_of, text_of, number_in, count_in};
-ghost use Rattle.ch_lines.specs.Outcome.{Gives};
+ghost use Rattle.ch_fields.specs.Outcome.{Gives};
 
 use crate::fault::Fault;
 use ch_base::{Address, Text, read_number};
@@ -49,7 +49,7 @@ fn place_of(byte: u8, text: &[u8]) -> Option<usize>
 
 /// The next field, and what follows its space where one comes.
 #[tactic(auto, unfolding(ch_model::specs::Fields::field_of))]
-pub(crate) fn field(rest: Option<&[u8]>) -> Result<(&[u8], Option<&[u8]>), Fault>
+pub fn field(rest: Option<&[u8]>) -> Result<(&[u8], Option<&[u8]>), Fault>
     ensures { Gives (λ p. (p.0.now, option_map (λ r. r.now) p.1)) result (field_of (option_map (λ r. r.now) rest.entry)) }
 {
     match rest {
@@ -63,7 +63,7 @@ pub(crate) fn field(rest: Option<&[u8]>) -> Result<(&[u8], Option<&[u8]>), Fault
 
 /// No field is left.
 #[tactic(auto, unfolding(ch_model::specs::Fields::last_of))]
-pub(crate) fn last(rest: Option<&[u8]>) -> Result<bool, Fault>
+pub fn last(rest: Option<&[u8]>) -> Result<bool, Fault>
     ensures { Gives (λ x. x) result (last_of (option_map (λ r. r.now) rest.entry)) }
 {
     match rest {
@@ -101,7 +101,7 @@ fn begins_with_letter(text: &[u8]) -> bool
 
 /// A node's name: 1 to 16 lower-case letters and digits, the first a letter.
 #[tactic(auto, unfolding(ch_model::specs::Fields::node_name_of))]
-pub(crate) fn node_name(field: &[u8]) -> Result<&[u8], Fault>
+pub fn node_name(field: &[u8]) -> Result<&[u8], Fault>
     ensures { Gives (λ x. x.now) result (node_name_of field.now) }
 {
     if begins_with_letter(field) && field.len() <= MOST_NAME_BYTES && all_name_bytes(field) {
@@ -125,7 +125,7 @@ fn all_digits(bytes: &[u8]) -> bool
 
 /// Digits, at least one.
 #[tactic(auto, unfolding(ch_model::specs::Fields::digits_of))]
-pub(crate) fn digits(field: &[u8]) -> Result<&[u8], Fault>
+pub fn digits(field: &[u8]) -> Result<&[u8], Fault>
     ensures { Gives (λ x. x.now) result (digits_of field.now) }
 {
     if !field.is_empty() && all_digits(field) {
@@ -137,7 +137,7 @@ pub(crate) fn digits(field: &[u8]) -> Result<&[u8], Fault>
 
 /// A mark, or a label: a name.
 #[tactic(auto, unfolding(ch_model::specs::Fields::word_of, ch_ident::specs::Reading::name_of))]
-pub(crate) fn word(alloc: Global, field: &[u8]) -> Result<Name, Fault>
+pub fn word(alloc: Global, field: &[u8]) -> Result<Name, Fault>
     ensures { Gives (λ x. x) result (word_of field.now) }
 {
     Ok(Name::new(alloc, field)?)
@@ -154,7 +154,7 @@ fn begins_with_dollar(text: &[u8]) -> bool
 
 /// The mark of a message that is sent, which doesn't begin with `$`.
 #[tactic(auto, unfolding(ch_model::specs::Fields::sent_mark_of))]
-pub(crate) fn sent_mark(alloc: Global, field: &[u8]) -> Result<Name, Fault>
+pub fn sent_mark(alloc: Global, field: &[u8]) -> Result<Name, Fault>
     ensures { Gives (λ x. x) result (sent_mark_of field.now) }
 {
     let mark = word(alloc, field)?;
@@ -175,7 +175,7 @@ fn is_dash(text: &[u8]) -> bool
 
 /// Bytes: `-` for none, else pairs of hexadecimal digits in either case, at least one pair.
 #[tactic(auto, unfolding(ch_model::specs::Fields::bytes_of))]
-pub(crate) fn bytes(alloc: Global, field: &[u8]) -> Result<Text, Fault>
+pub fn bytes(alloc: Global, field: &[u8]) -> Result<Text, Fault>
     ensures { Gives (λ x. x) result (bytes_of field.now) }
 {
     if is_dash(field) {
@@ -189,7 +189,7 @@ pub(crate) fn bytes(alloc: Global, field: &[u8]) -> Result<Text, Fault>
 
 /// An address.
 #[tactic(auto, unfolding(ch_model::specs::Fields::address_of))]
-pub(crate) fn address(alloc: Global, field: &[u8]) -> Result<Address, Fault>
+pub fn address(alloc: Global, field: &[u8]) -> Result<Address, Fault>
     ensures { Gives (λ x. x) result (address_of field.now) }
 {
     Ok(Address::read(alloc, field)?)
@@ -197,7 +197,7 @@ pub(crate) fn address(alloc: Global, field: &[u8]) -> Result<Address, Fault>
 
 /// The number of digits: without a leading zero, at most 4294967295.
 #[tactic(auto, unfolding(ch_model::specs::Fields::number_in))]
-pub(crate) fn number(digits: &[u8]) -> Result<u32, Fault>
+pub fn number(digits: &[u8]) -> Result<u32, Fault>
     ensures { Gives (λ x. x) result (number_in digits.now) }
 {
     Ok(read_number(digits, u32::MAX).ok_or(Fault::Bad(BadKind::Number))?)
@@ -205,7 +205,7 @@ pub(crate) fn number(digits: &[u8]) -> Result<u32, Fault>
 
 /// The same, and at least 1.
 #[tactic(auto, unfolding(ch_model::specs::Fields::count_in))]
-pub(crate) fn count(digits: &[u8]) -> Result<u32, Fault>
+pub fn count(digits: &[u8]) -> Result<u32, Fault>
     ensures { Gives (λ x. x) result (count_in digits.now) }
 {
     match read_number(digits, u32::MAX) {
@@ -215,7 +215,7 @@ pub(crate) fn count(digits: &[u8]) -> Result<u32, Fault>
 }
 
 /// The second of two names that have to differ.
-pub(crate) fn apart<'a>(first: &[u8], second: &'a [u8]) -> Result<&'a [u8], Fault>
+pub fn apart<'a>(first: &[u8], second: &'a [u8]) -> Result<&'a [u8], Fault>
     ensures { Gives (λ x. x.now) result (need Form (not (bytes_eq first.now second.now)) second.now) }
 {
     if first != second {
@@ -239,7 +239,7 @@ fn all_host_bytes(text: &[u8]) -> bool
 
 /// A stranger's host: the host of some address.
 #[tactic(auto, unfolding(ch_model::specs::Fields::host_of))]
-pub(crate) fn host(field: &[u8]) -> Result<&[u8], Fault>
+pub fn host(field: &[u8]) -> Result<&[u8], Fault>
     ensures { Gives (λ x. x.now) result (host_of field.now) }
 {
     if !field.is_empty() && all_host_bytes(field) && field.len() <= MOST_HOST_BYTES {
@@ -251,7 +251,7 @@ pub(crate) fn host(field: &[u8]) -> Result<&[u8], Fault>
 
 /// An end of a socket: `o` for the opener's, `t` for the target's.
 #[tactic(auto, unfolding(ch_model::specs::Fields::end_of))]
-pub(crate) fn end(field: &[u8]) -> Result<End, Fault>
+pub fn end(field: &[u8]) -> Result<End, Fault>
     ensures { Gives (λ x. x) result (end_of field.now) }
 {
     if field == b"o".as_slice() {
@@ -283,7 +283,7 @@ fn is_line_text(text: &[u8]) -> bool
 
 /// A text: the whole rest of its line, 1 to 200 bytes that show something or are spaces.
 #[tactic(auto, unfolding(ch_model::specs::Fields::text_of))]
-pub(crate) fn text(rest: Option<&[u8]>) -> Result<&[u8], Fault>
+pub fn text(rest: Option<&[u8]>) -> Result<&[u8], Fault>
     ensures { Gives (λ x. x.now) result (text_of (option_map (λ r. r.now) rest.entry)) }
 {
     match rest {
