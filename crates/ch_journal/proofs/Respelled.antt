@@ -1,10 +1,9 @@
 -- Each word's reader reads the canonical text of what it read as that again, where every line is read.
-use Rattle.std.proofs.Common.{◌≡◌, ℕ, Bool, true, false, not, List, [], ◌∷◌, ◌++◌, codes, Option, Some, None, Result, Ok, Err, refl, sym, ap, subst, ◌∙◌}
+use Rattle.std.proofs.Common.{◌≡◌, ℕ, not, List, [], ◌∷◌, ◌++◌, codes, Option, Some, Result, Ok, refl, sym, ap, ◌∙◌}
 use Rattle.std.specs.Str.{bytes_eq}
 use Rattle.std.specs.Fmt.{decimal}
 use Rattle.std.specs.List.{flat_map}
 use Rattle.std.proofs.lemmas.List.{append-nil}
-use Rattle.hex.specs.Hex.{IsBytes}
 use Rattle.ch_base.specs.AddressValues.{AddressValue}
 use Rattle.ch_base.specs.Addresses.{address_text}
 use Rattle.ch_model.specs.declared.refusal.BadKind.{BadKind}
@@ -12,7 +11,6 @@ use Rattle.ch_model.specs.declared.refusal.BadKind.TheVariants.{Form, Late}
 use Rattle.ch_model.specs.declared.name.End.{End}
 use Rattle.ch_model.specs.declared.name.ProcName.{ProcName}
 use Rattle.ch_model.specs.declared.name.SockName.{SockName}
-use Rattle.ch_model.specs.declared.name.TargetName.{TargetName}
 use Rattle.ch_model.specs.declared.line.What.{What}
 use Rattle.ch_model.specs.declared.line.What.TheVariants as lines
 use Rattle.ch_model.specs.Fields.{need, field_of, last_of, node_name_of, digits_of, word_of, sent_mark_of, bytes_of, address_of, host_of, end_of, text_of, number_in, count_in}
@@ -24,7 +22,7 @@ use Rattle.ch_model.specs.LinesOfPeers.{process_and_peer, process_peer_and_text,
 use Rattle.ch_model.specs.LinesOfSockets.{socket_alone, socket_and_end, shut_line, join_line, come_line, refuse_line, feed_line, cut_line, lose_line, late_line, knock_line, poke_line, quit_line, settle_line}
 use Rattle.ch_model.specs.SpellingFields.{field, line_text_of, process_text, target_text, reference_text, socket_text, end_text, bytes_text}
 use Rattle.ch_model.specs.Spelling.{what_text}
-use Rattle.ch_journal.proofs.Parts.{lacks, field_alone, needed, bind_ok, accepts, accepted_is}
+use Rattle.ch_journal.proofs.Parts.{field_alone, bind_ok, accepts, accepted_is}
 use Rattle.ch_journal.proofs.Classes.{bytes_found, bytes_lacks, bytes_again}
 use Rattle.ch_journal.proofs.Spelled.{tail, field_found, field_before, then_field, no_field, last_text, name_is, needed_is, word_is, mark_is, host_is, address_is, end_is, number_is, count_is, process_is, named_is, reference_is, socket_is, destination_is}
 
@@ -89,7 +87,7 @@ alone_spelled told rest p e =
     let process = bind_ok (numbered actor.0) _ p actor.2 in
     let node = bind_ok (declared_in told process.0.node) _ p process.2 in
     let is : process.0 ≡ p = accepted_is _ p node.2 in
-    then_field _ _ by.1 (process_is actor.1 process.1 ∙ ap process_text is) (no_field _ last.1)
+    then_field _ [] by.1 (process_is actor.1 process.1 ∙ ap process_text is) (no_field _ last.1)
 
 worded_spelled : (told : Told) (rest : Option (List ℕ)) (p : ProcName × List ℕ) → process_and_word told rest ≡ Ok p → tail rest ≡ flat_map field (process_text p.0 ∷ p.1 ∷ [])
 unfolding process_and_word
@@ -102,7 +100,7 @@ worded_spelled told rest p e =
     let process = bind_ok (numbered actor.0) _ p word.2 in
     let node = bind_ok (declared_in told process.0.node) _ p process.2 in
     let is : (process.0, word.0) ≡ p = accepted_is _ p node.2 in
-    then_field _ _ by.1 (process_is actor.1 process.1) (then_field _ _ mark.1 (word_is word.1) (no_field _ last.1))
+    then_field _ (word.0 ∷ []) by.1 (process_is actor.1 process.1) (then_field _ [] mark.1 (word_is word.1) (no_field _ last.1))
     ∙ ap (λ (t : ProcName × List ℕ). flat_map field (process_text t.0 ∷ t.1 ∷ [])) is
 
 peer_spelled : (told : Told) (rest : Option (List ℕ)) (p : ProcName × ProcName) → process_and_peer told rest ≡ Ok p → tail rest ≡ flat_map field (process_text p.0 ∷ process_text p.1 ∷ [])
@@ -118,7 +116,7 @@ peer_spelled told rest p e =
     let one = bind_ok (declared_in told process.0.node) _ p peer.2 in
     let other = bind_ok (peer_in told peer.0.node) _ p one.2 in
     let is : (process.0, peer.0) ≡ p = accepted_is _ p other.2 in
-    then_field _ _ by.1 (process_is actor.1 process.1) (then_field _ _ on.1 (process_is target.1 peer.1) (no_field _ last.1))
+    then_field _ (process_text peer.0 ∷ []) by.1 (process_is actor.1 process.1) (then_field _ [] on.1 (process_is target.1 peer.1) (no_field _ last.1))
     ∙ ap (λ (t : ProcName × ProcName). flat_map field (process_text t.0 ∷ process_text t.1 ∷ [])) is
 
 doom_spelled : (told : Told) (rest : Option (List ℕ)) (p : ProcName × ProcName × List ℕ) → process_peer_and_text told rest ≡ Ok p → tail rest ≡ flat_map field (process_text p.0 ∷ process_text p.1 ∷ p.2 ∷ [])
@@ -134,7 +132,7 @@ doom_spelled told rest p e =
     let one = bind_ok (declared_in told process.0.node) _ p peer.2 in
     let other = bind_ok (peer_in told peer.0.node) _ p one.2 in
     let is : (process.0, peer.0, text.0) ≡ p = accepted_is _ p other.2 in
-    then_field _ _ by.1 (process_is actor.1 process.1) (then_field _ _ on.1 (process_is target.1 peer.1) (last_text _ text.1))
+    then_field _ (process_text peer.0 ∷ text.0 ∷ []) by.1 (process_is actor.1 process.1) (then_field _ (text.0 ∷ []) on.1 (process_is target.1 peer.1) (last_text _ text.1))
     ∙ ap (λ (t : ProcName × ProcName × List ℕ). flat_map field (process_text t.0 ∷ process_text t.1 ∷ t.2 ∷ [])) is
 
 socket_spelled : (told : Told) (rest : Option (List ℕ)) (s : SockName) → socket_alone told rest ≡ Ok s → tail rest ≡ flat_map field (socket_text s ∷ [])
@@ -147,7 +145,7 @@ socket_spelled told rest s e =
     let from = bind_ok (opener_in told socket.0.from) _ s socket.2 in
     let to = bind_ok (peer_in told socket.0.to) _ s from.2 in
     let is : socket.0 ≡ s = accepted_is _ s to.2 in
-    then_field _ _ sock.1 (socket_is parts.1 socket.1 ∙ ap socket_text is) (no_field _ last.1)
+    then_field _ [] sock.1 (socket_is parts.1 socket.1 ∙ ap socket_text is) (no_field _ last.1)
 
 place_spelled : (told : Told) (rest : Option (List ℕ)) (p : SockName × End) → socket_and_end told rest ≡ Ok p → tail rest ≡ flat_map field (socket_text p.0 ∷ end_text p.1 ∷ [])
 unfolding socket_and_end
@@ -161,7 +159,7 @@ place_spelled told rest p e =
     let from = bind_ok (opener_in told socket.0.from) _ p socket.2 in
     let to = bind_ok (peer_in told socket.0.to) _ p from.2 in
     let is : (socket.0, end.0) ≡ p = accepted_is _ p to.2 in
-    then_field _ _ sock.1 (socket_is parts.1 socket.1) (then_field _ _ letter.1 (end_is end.1) (no_field _ last.1))
+    then_field _ (end_text end.0 ∷ []) sock.1 (socket_is parts.1 socket.1) (then_field _ [] letter.1 (end_is end.1) (no_field _ last.1))
     ∙ ap (λ (t : SockName × End). flat_map field (socket_text t.0 ∷ end_text t.1 ∷ [])) is
 
 declares_spelled : (told : Told) (rest : Option (List ℕ)) (p : List ℕ × AddressValue × ℕ) → place_line told rest ≡ Ok p → tail rest ≡ flat_map field (p.0 ∷ address_text p.1 ∷ decimal p.2 ∷ [])
@@ -179,7 +177,7 @@ declares_spelled told rest p e =
     let own = bind_ok (new_name told named.0) _ p early.2 in
     let at = bind_ok (new_address told place.0) _ p own.2 in
     let is : (own.0, at.0, number.0) ≡ p = accepted_is _ p at.2 in
-    then_field _ _ name.1 (name_is named.1 ∙ new_name_is _ own.1) (then_field _ _ address.1 (address_is place.1 ∙ ap address_text (new_address_is _ at.1)) (then_field _ _ unique.1 (number_is digits.1 number.1) (no_field _ last.1)))
+    then_field _ (address_text at.0 ∷ decimal number.0 ∷ []) name.1 (name_is named.1 ∙ new_name_is _ own.1) (then_field _ (decimal number.0 ∷ []) address.1 (address_is place.1 ∙ ap address_text (new_address_is _ at.1)) (then_field _ [] unique.1 (number_is digits.1 number.1) (no_field _ last.1)))
     ∙ ap (λ (t : List ℕ × AddressValue × ℕ). flat_map field (t.0 ∷ address_text t.1 ∷ decimal t.2 ∷ [])) is
 
 -- ---- each word
@@ -210,7 +208,7 @@ label_respells told rest what e =
     let node = bind_ok (declared_in told named.0) _ what early.2 in
     let fresh = bind_ok (new_label told node.0 word.0) _ what node.2 in
     let is : lines.Label node.0 fresh.0 ≡ what = accepted_is _ what fresh.2 in
-    as_it_was (codes "label") (label_line told) rest (node.0 ∷ fresh.0 ∷ []) (lines.Label node.0 fresh.0) what e is refl (then_field _ _ name.1 (name_is named.1 ∙ declared_is _ node.1) (then_field _ _ label.1 (word_is word.1 ∙ new_label_is _ _ fresh.1) (no_field _ last.1)))
+    as_it_was (codes "label") (label_line told) rest (node.0 ∷ fresh.0 ∷ []) (lines.Label node.0 fresh.0) what e is refl (then_field _ (fresh.0 ∷ []) name.1 (name_is named.1 ∙ declared_is _ node.1) (then_field _ [] label.1 (word_is word.1 ∙ new_label_is _ _ fresh.1) (no_field _ last.1)))
 
 pub stranger_respells : (told : Told) → AllRespell (codes "stranger") (stranger_line told)
 unfolding stranger_line
@@ -224,7 +222,7 @@ stranger_respells told rest what e =
     let own = bind_ok (new_name told named.0) _ what early.2 in
     let place = bind_ok (new_host told text.0) _ what own.2 in
     let is : lines.Stranger own.0 place.0 ≡ what = accepted_is _ what place.2 in
-    as_it_was (codes "stranger") (stranger_line told) rest (own.0 ∷ place.0 ∷ []) (lines.Stranger own.0 place.0) what e is refl (then_field _ _ name.1 (name_is named.1 ∙ new_name_is _ own.1) (then_field _ _ host.1 (host_is text.1 ∙ new_host_is _ place.1) (no_field _ last.1)))
+    as_it_was (codes "stranger") (stranger_line told) rest (own.0 ∷ place.0 ∷ []) (lines.Stranger own.0 place.0) what e is refl (then_field _ (place.0 ∷ []) name.1 (name_is named.1 ∙ new_name_is _ own.1) (then_field _ [] host.1 (host_is text.1 ∙ new_host_is _ place.1) (no_field _ last.1)))
 
 pub proc_respells : (told : Told) → AllRespell (codes "proc") (proc_line told)
 unfolding proc_line
@@ -234,7 +232,7 @@ proc_respells told rest what e =
     let named = bind_ok (node_name_of name.0.0) _ what last.2 in
     let node = bind_ok (declared_in told named.0) _ what named.2 in
     let is : lines.Proc node.0 ≡ what = accepted_is _ what node.2 in
-    as_it_was (codes "proc") (proc_line told) rest (node.0 ∷ []) (lines.Proc node.0) what e is refl (then_field _ _ name.1 (name_is named.1 ∙ declared_is _ node.1) (no_field _ last.1))
+    as_it_was (codes "proc") (proc_line told) rest (node.0 ∷ []) (lines.Proc node.0) what e is refl (then_field _ [] name.1 (name_is named.1 ∙ declared_is _ node.1) (no_field _ last.1))
 
 pub shut_respells : (told : Told) → AllRespell (codes "shut") (shut_line told)
 unfolding shut_line
@@ -244,7 +242,7 @@ shut_respells told rest what e =
     let named = bind_ok (node_name_of name.0.0) _ what last.2 in
     let node = bind_ok (declared_in told named.0) _ what named.2 in
     let is : lines.Shut node.0 ≡ what = accepted_is _ what node.2 in
-    as_it_was (codes "shut") (shut_line told) rest (node.0 ∷ []) (lines.Shut node.0) what e is refl (then_field _ _ name.1 (name_is named.1 ∙ declared_is _ node.1) (no_field _ last.1))
+    as_it_was (codes "shut") (shut_line told) rest (node.0 ∷ []) (lines.Shut node.0) what e is refl (then_field _ [] name.1 (name_is named.1 ∙ declared_is _ node.1) (no_field _ last.1))
 
 pub port_respells : (told : Told) → AllRespell (codes "port") (port_line told)
 unfolding port_line
@@ -364,7 +362,7 @@ again_respells told rest what e =
     let one = bind_ok (declared_in told from.0.node) _ what goal.2 in
     let other = bind_ok (peer_in told (target_node goal.0)) _ what one.2 in
     let is : lines.Again from.0 goal.0 ≡ what = accepted_is _ what other.2 in
-    as_it_was (codes "again") (again_line told) rest (process_text from.0 ∷ target_text goal.0 ∷ []) (lines.Again from.0 goal.0) what e is refl (then_field _ _ by.1 (process_is sender.1 from.1) (then_field _ _ to.1 (destination_is receiver.1 goal.1) (no_field _ last.1)))
+    as_it_was (codes "again") (again_line told) rest (process_text from.0 ∷ target_text goal.0 ∷ []) (lines.Again from.0 goal.0) what e is refl (then_field _ (target_text goal.0 ∷ []) by.1 (process_is sender.1 from.1) (then_field _ [] to.1 (destination_is receiver.1 goal.1) (no_field _ last.1)))
 
 pub take_respells : (told : Told) → AllRespell (codes "take") (take_line told)
 unfolding take_line
@@ -378,7 +376,7 @@ take_respells told rest what e =
     let number = bind_ok (number_in digits.0) _ what process.2 in
     let node = bind_ok (declared_in told process.0.node) _ what number.2 in
     let is : lines.Take process.0 number.0 ≡ what = accepted_is _ what node.2 in
-    as_it_was (codes "take") (take_line told) rest (process_text process.0 ∷ decimal number.0 ∷ []) (lines.Take process.0 number.0) what e is refl (then_field _ _ by.1 (process_is taker.1 process.1) (then_field _ _ port.1 (number_is digits.1 number.1) (no_field _ last.1)))
+    as_it_was (codes "take") (take_line told) rest (process_text process.0 ∷ decimal number.0 ∷ []) (lines.Take process.0 number.0) what e is refl (then_field _ (decimal number.0 ∷ []) by.1 (process_is taker.1 process.1) (then_field _ [] port.1 (number_is digits.1 number.1) (no_field _ last.1)))
 
 pub fail_respells : (told : Told) → AllRespell (codes "fail") (fail_line told)
 unfolding fail_line
@@ -389,7 +387,7 @@ fail_respells told rest what e =
     let process = bind_ok (numbered actor.0) _ what text.2 in
     let node = bind_ok (declared_in told process.0.node) _ what process.2 in
     let is : lines.Fail process.0 text.0 ≡ what = accepted_is _ what node.2 in
-    as_it_was (codes "fail") (fail_line told) rest (process_text process.0 ∷ text.0 ∷ []) (lines.Fail process.0 text.0) what e is refl (then_field _ _ by.1 (process_is actor.1 process.1) (last_text _ text.1))
+    as_it_was (codes "fail") (fail_line told) rest (process_text process.0 ∷ text.0 ∷ []) (lines.Fail process.0 text.0) what e is refl (then_field _ (text.0 ∷ []) by.1 (process_is actor.1 process.1) (last_text _ text.1))
 
 pub unwatch_respells : (told : Told) → AllRespell (codes "unwatch") (unwatch_line told)
 unfolding unwatch_line
@@ -404,7 +402,7 @@ unwatch_respells told rest what e =
     let one = bind_ok (declared_in told process.0.node) _ what reference.2 in
     let other = bind_ok (peer_in told reference.0.node) _ what one.2 in
     let is : lines.Unwatch process.0 reference.0 ≡ what = accepted_is _ what other.2 in
-    as_it_was (codes "unwatch") (unwatch_line told) rest (process_text process.0 ∷ reference_text reference.0 ∷ []) (lines.Unwatch process.0 reference.0) what e is refl (then_field _ _ by.1 (process_is actor.1 process.1) (then_field _ _ watch.1 (reference_is asked.1 reference.1) (no_field _ last.1)))
+    as_it_was (codes "unwatch") (unwatch_line told) rest (process_text process.0 ∷ reference_text reference.0 ∷ []) (lines.Unwatch process.0 reference.0) what e is refl (then_field _ (reference_text reference.0 ∷ []) by.1 (process_is actor.1 process.1) (then_field _ [] watch.1 (reference_is asked.1 reference.1) (no_field _ last.1)))
 
 pub whereis_respells : (told : Told) → AllRespell (codes "whereis") (whereis_line told)
 unfolding whereis_line
@@ -420,7 +418,7 @@ whereis_respells told rest what e =
     let one = bind_ok (declared_in told process.0.node) _ what process.2 in
     let node = bind_ok (peer_in told named.0) _ what one.2 in
     let is : lines.Whereis process.0 node.0 word.0 ≡ what = accepted_is _ what node.2 in
-    as_it_was (codes "whereis") (whereis_line told) rest (process_text process.0 ∷ node.0 ∷ word.0 ∷ []) (lines.Whereis process.0 node.0 word.0) what e is refl (then_field _ _ by.1 (process_is actor.1 process.1) (then_field _ _ at.1 (name_is named.1 ∙ peer_is _ node.1) (then_field _ _ name.1 (word_is word.1) (no_field _ last.1))))
+    as_it_was (codes "whereis") (whereis_line told) rest (process_text process.0 ∷ node.0 ∷ word.0 ∷ []) (lines.Whereis process.0 node.0 word.0) what e is refl (then_field _ (node.0 ∷ word.0 ∷ []) by.1 (process_is actor.1 process.1) (then_field _ (word.0 ∷ []) at.1 (name_is named.1 ∙ peer_is _ node.1) (then_field _ [] name.1 (word_is word.1) (no_field _ last.1))))
 
 pub feed_respells : (told : Told) → AllRespell (codes "feed") (feed_line told)
 unfolding feed_line
@@ -437,7 +435,7 @@ feed_respells told rest what e =
     let from = bind_ok (opener_in told socket.0.from) _ what number.2 in
     let to = bind_ok (peer_in told socket.0.to) _ what from.2 in
     let is : lines.Feed socket.0 end.0 number.0 ≡ what = accepted_is _ what to.2 in
-    as_it_was (codes "feed") (feed_line told) rest (socket_text socket.0 ∷ end_text end.0 ∷ decimal number.0 ∷ []) (lines.Feed socket.0 end.0 number.0) what e is refl (then_field _ _ sock.1 (socket_is parts.1 socket.1) (then_field _ _ letter.1 (end_is end.1) (then_field _ _ count.1 (count_is digits.1 number.1) (no_field _ last.1))))
+    as_it_was (codes "feed") (feed_line told) rest (socket_text socket.0 ∷ end_text end.0 ∷ decimal number.0 ∷ []) (lines.Feed socket.0 end.0 number.0) what e is refl (then_field _ (end_text end.0 ∷ decimal number.0 ∷ []) sock.1 (socket_is parts.1 socket.1) (then_field _ (decimal number.0 ∷ []) letter.1 (end_is end.1) (then_field _ [] count.1 (count_is digits.1 number.1) (no_field _ last.1))))
 
 pub late_respells : (told : Told) → AllRespell (codes "late") (late_line told)
 unfolding late_line
@@ -451,7 +449,7 @@ late_respells told rest what e =
     let node = bind_ok (declared_in told first.0) _ what apart.2 in
     let peer = bind_ok (peer_in told apart.0) _ what node.2 in
     let is : lines.Late node.0 peer.0 ≡ what = accepted_is _ what peer.2 in
-    as_it_was (codes "late") (late_line told) rest (node.0 ∷ peer.0 ∷ []) (lines.Late node.0 peer.0) what e is refl (then_field _ _ name.1 (name_is first.1 ∙ declared_is _ node.1) (then_field _ _ other.1 (name_is second.1 ∙ needed_is _ _ apart.1 ∙ peer_is _ peer.1) (no_field _ last.1)))
+    as_it_was (codes "late") (late_line told) rest (node.0 ∷ peer.0 ∷ []) (lines.Late node.0 peer.0) what e is refl (then_field _ (peer.0 ∷ []) name.1 (name_is first.1 ∙ declared_is _ node.1) (then_field _ [] other.1 (name_is second.1 ∙ needed_is _ _ apart.1 ∙ peer_is _ peer.1) (no_field _ last.1)))
 
 pub knock_respells : (told : Told) → AllRespell (codes "knock") (knock_line told)
 unfolding knock_line
@@ -464,7 +462,7 @@ knock_respells told rest what e =
     let stranger = bind_ok (stranger_in told first.0) _ what second.2 in
     let node = bind_ok (declared_in told second.0) _ what stranger.2 in
     let is : lines.Knock stranger.0 node.0 ≡ what = accepted_is _ what node.2 in
-    as_it_was (codes "knock") (knock_line told) rest (stranger.0 ∷ node.0 ∷ []) (lines.Knock stranger.0 node.0) what e is refl (then_field _ _ name.1 (name_is first.1 ∙ stranger_is _ stranger.1) (then_field _ _ other.1 (name_is second.1 ∙ declared_is _ node.1) (no_field _ last.1)))
+    as_it_was (codes "knock") (knock_line told) rest (stranger.0 ∷ node.0 ∷ []) (lines.Knock stranger.0 node.0) what e is refl (then_field _ (node.0 ∷ []) name.1 (name_is first.1 ∙ stranger_is _ stranger.1) (then_field _ [] other.1 (name_is second.1 ∙ declared_is _ node.1) (no_field _ last.1)))
 
 pub quit_respells : (told : Told) → AllRespell (codes "quit") (quit_line told)
 unfolding quit_line
@@ -476,7 +474,7 @@ quit_respells told rest what e =
     let from = bind_ok (stranger_in told socket.0.from) _ what socket.2 in
     let to = bind_ok (peer_in told socket.0.to) _ what from.2 in
     let is : lines.Quit socket.0 ≡ what = accepted_is _ what to.2 in
-    as_it_was (codes "quit") (quit_line told) rest (socket_text socket.0 ∷ []) (lines.Quit socket.0) what e is refl (then_field _ _ sock.1 (socket_is parts.1 socket.1) (no_field _ last.1))
+    as_it_was (codes "quit") (quit_line told) rest (socket_text socket.0 ∷ []) (lines.Quit socket.0) what e is refl (then_field _ [] sock.1 (socket_is parts.1 socket.1) (no_field _ last.1))
 
 pub settle_respells : (told : Told) → AllRespell (codes "settle") (settle_line told)
 unfolding settle_line
@@ -523,7 +521,7 @@ send_respells told rest what e =
       one.1,
       other.1,
     ) refl in
-    record { rest = rest0; fields = process_text from.0 ∷ target_text goal.0 ∷ word.0 ∷ bytes_text bytes.0 ∷ []; again = again ∙ ap accepts is; is = ap what_text (sym is); spelled = spelled_before by.0.0 _ _ (process_is sender.1 from.1) (spelled_before to.0.0 _ _ (destination_is receiver.1 goal.1) (spelled_before mark.0.0 _ _ (mark_is word.1) (ap (λ l. 32 ∷ l) (sym (append-nil (bytes_text bytes.0)))))) }
+    record { rest = rest0; fields = process_text from.0 ∷ target_text goal.0 ∷ word.0 ∷ bytes_text bytes.0 ∷ []; again = again ∙ ap accepts is; is = ap what_text (sym is); spelled = spelled_before by.0.0 rest1 (target_text goal.0 ∷ word.0 ∷ bytes_text bytes.0 ∷ []) (process_is sender.1 from.1) (spelled_before to.0.0 rest2 (word.0 ∷ bytes_text bytes.0 ∷ []) (destination_is receiver.1 goal.1) (spelled_before mark.0.0 rest3 (bytes_text bytes.0 ∷ []) (mark_is word.1) (ap (λ l. 32 ∷ l) (sym (append-nil (bytes_text bytes.0)))))) }
 
 pub nsend_respells : (told : Told) → AllRespell (codes "nsend") (nsend_line told)
 unfolding nsend_line last_of
@@ -559,7 +557,7 @@ nsend_respells told rest what e =
       one.1,
       other.1,
     ) refl in
-    record { rest = rest0; fields = process_text from.0 ∷ target_text goal.0 ∷ word.0 ∷ bytes_text bytes.0 ∷ []; again = again ∙ ap accepts is; is = ap what_text (sym is); spelled = spelled_before by.0.0 _ _ (process_is sender.1 from.1) (spelled_before to.0.0 _ _ (named_is goal.1) (spelled_before mark.0.0 _ _ (mark_is word.1) (ap (λ l. 32 ∷ l) (sym (append-nil (bytes_text bytes.0)))))) }
+    record { rest = rest0; fields = process_text from.0 ∷ target_text goal.0 ∷ word.0 ∷ bytes_text bytes.0 ∷ []; again = again ∙ ap accepts is; is = ap what_text (sym is); spelled = spelled_before by.0.0 rest1 (target_text goal.0 ∷ word.0 ∷ bytes_text bytes.0 ∷ []) (process_is sender.1 from.1) (spelled_before to.0.0 rest2 (word.0 ∷ bytes_text bytes.0 ∷ []) (named_is goal.1) (spelled_before mark.0.0 rest3 (bytes_text bytes.0 ∷ []) (mark_is word.1) (ap (λ l. 32 ∷ l) (sym (append-nil (bytes_text bytes.0)))))) }
 
 pub spawn_respells : (told : Told) → AllRespell (codes "spawn") (spawn_line told)
 unfolding spawn_line last_of
@@ -595,7 +593,7 @@ spawn_respells told rest what e =
       one.1,
       node.1,
     ) refl in
-    record { rest = rest0; fields = process_text process.0 ∷ node.0 ∷ word.0 ∷ bytes_text bytes.0 ∷ []; again = again ∙ ap accepts is; is = ap what_text (sym is); spelled = spelled_before by.0.0 _ _ (process_is actor.1 process.1) (spelled_before at.0.0 _ _ (name_is named.1 ∙ peer_is _ node.1) (spelled_before label.0.0 _ _ (word_is word.1) (ap (λ l. 32 ∷ l) (sym (append-nil (bytes_text bytes.0)))))) }
+    record { rest = rest0; fields = process_text process.0 ∷ node.0 ∷ word.0 ∷ bytes_text bytes.0 ∷ []; again = again ∙ ap accepts is; is = ap what_text (sym is); spelled = spelled_before by.0.0 rest1 (node.0 ∷ word.0 ∷ bytes_text bytes.0 ∷ []) (process_is actor.1 process.1) (spelled_before at.0.0 rest2 (word.0 ∷ bytes_text bytes.0 ∷ []) (name_is named.1 ∙ peer_is _ node.1) (spelled_before label.0.0 rest3 (bytes_text bytes.0 ∷ []) (word_is word.1) (ap (λ l. 32 ∷ l) (sym (append-nil (bytes_text bytes.0)))))) }
 
 pub poke_respells : (told : Told) → AllRespell (codes "poke") (poke_line told)
 unfolding poke_line last_of
@@ -621,4 +619,4 @@ poke_respells told rest what e =
       from.1,
       to.1,
     ) refl in
-    record { rest = rest0; fields = socket_text socket.0 ∷ bytes_text bytes.0 ∷ []; again = again ∙ ap accepts is; is = ap what_text (sym is); spelled = spelled_before sock.0.0 _ _ (socket_is parts.1 socket.1) (ap (λ l. 32 ∷ l) (sym (append-nil (bytes_text bytes.0)))) }
+    record { rest = rest0; fields = socket_text socket.0 ∷ bytes_text bytes.0 ∷ []; again = again ∙ ap accepts is; is = ap what_text (sym is); spelled = spelled_before sock.0.0 rest1 (bytes_text bytes.0 ∷ []) (socket_is parts.1 socket.1) (ap (λ l. 32 ∷ l) (sym (append-nil (bytes_text bytes.0)))) }

@@ -1,11 +1,11 @@
 -- What a field that was read shows of its text: it is the canonical text of what was read, but for bytes, whose digits
 -- may be in either case.
-use Rattle.std.proofs.Common.{◌≡◌, ℕ, ◌≤◌, Bool, true, false, not, ◌&&◌, cond, List, [], ◌∷◌, ◌++◌, codes, Option, Some, None, Result, Ok, Err, nat_le, ◌==◌, refl, sym, ap, subst, ◌∙◌, arith, lit<}
+use Rattle.std.proofs.Common.{◌≡◌, ℕ, Bool, true, false, not, ◌&&◌, cond, List, [], ◌∷◌, ◌++◌, codes, Option, Some, None, Result, Ok, Err, nat_le, ◌==◌, refl, sym, ap, subst, ◌∙◌, arith, lit<}
 use Rattle.std.specs.Str.{bytes_eq}
 use Rattle.std.specs.Fmt.{decimal}
-use Rattle.std.specs.List.{list_all, flat_map}
+use Rattle.std.specs.List.{flat_map}
 use Rattle.std.proofs.lemmas.Bool.Decides.{nat_tests}
-use Rattle.std.proofs.lemmas.List.{append-nil, append_assoc}
+use Rattle.std.proofs.lemmas.List.{append-nil}
 use Rattle.std.proofs.lemmas.Slice.Eq.{bytes_eq-Decides}
 use Rattle.ch_base.specs.AddressValues.{AddressValue}
 use Rattle.ch_base.specs.Numbers.{number_of}
@@ -21,7 +21,7 @@ use Rattle.ch_model.specs.declared.name.RefName.{RefName}
 use Rattle.ch_model.specs.declared.name.SockName.{SockName}
 use Rattle.ch_model.specs.declared.name.TargetName.{TargetName}
 use Rattle.ch_model.specs.declared.name.TargetName.TheVariants.{Process, Port, Named}
-use Rattle.ch_model.specs.Fields.{need, or_else, at_byte, up_to_space, field_of, last_of, is_node_name_of, node_name_of, digits_of, word_of, sent_mark_of, begins_with_dollar, read_as, address_of, host_of, end_of, is_line_text, text_of, number_in, count_in}
+use Rattle.ch_model.specs.Fields.{need, or_else, at_byte, up_to_space, field_of, last_of, is_node_name_of, node_name_of, digits_of, word_of, sent_mark_of, read_as, address_of, host_of, end_of, is_line_text, text_of, number_in, count_in}
 use Rattle.ch_model.specs.FieldsOfNames.{process_of, destination_parts, destination_of, named_of, reference_of, socket_of, numbered, numbered_target, numbered_destination, numbered_reference, numbered_socket}
 use Rattle.ch_model.specs.SpellingFields.{field, process_text, target_text, reference_text, socket_text, end_text}
 use Rattle.ch_journal.proofs.Parts.{lacks, field_again, field_alone, needed, bind_ok, accepts, accepted_is}
@@ -182,10 +182,6 @@ count_is {text} {digits} {n} e f = digits_is e ∙ by (number_of 4294967295 digi
     by (Some m) g h = sym (number_found 4294967295 m digits (lit< tt) g).0 ∙ ap decimal (one (nat_le 1 m) m h)
 
 -- ---- fields that name
-
--- a name, such a byte, and the digits of a number
-named_number : (c : ℕ) {text : List ℕ} {p : List ℕ × List ℕ} {name digits : List ℕ} {n : ℕ} → or_else Form (at_byte c text) ≡ Ok p → node_name_of p.0 ≡ Ok name → digits_of p.1 ≡ Ok digits → number_in digits ≡ Ok n → text ≡ name ++ c ∷ decimal n
-named_number c {text} {p} {name} {digits} {n} e f g h = parts_of c text p e ∙ ap (λ l. l ++ c ∷ p.1) (name_is f) ∙ ap (λ l. name ++ c ∷ l) (number_is g h)
 
 -- a process is cut at its dot
 record IsCut (text : List ℕ) (q : List ℕ × List ℕ) : Type 0 where

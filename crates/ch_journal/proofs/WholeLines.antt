@@ -1,5 +1,5 @@
 -- The canonical text of any line that was accepted is read as that line again, where every line is read.
-use Rattle.std.proofs.Common.{◌≡◌, ℕ, Bool, true, false, cond, List, [], ◌∷◌, ◌++◌, codes, Option, Some, None, Result, Ok, Err, if◌then◌else◌, refl, sym, ap, subst, ◌∙◌, append_assoc}
+use Rattle.std.proofs.Common.{◌≡◌, ℕ, Bool, true, false, cond, List, [], ◌∷◌, ◌++◌, Option, Some, None, Result, Ok, Err, if◌then◌else◌, refl, sym, ap, subst, ◌∙◌, append_assoc}
 use Rattle.std.specs.Str.{bytes_eq}
 use Rattle.std.specs.List.{flat_map}
 use Rattle.std.proofs.lemmas.Slice.Eq.{bytes_eq-Decides}
@@ -11,7 +11,7 @@ use Rattle.ch_model.specs.LinesTold.{Told, told_after}
 use Rattle.ch_model.specs.Lines.{LineWord, line_of_word, line_said, says_nothing, header, said_and_told, read_line, whole}
 use Rattle.ch_model.specs.SpellingFields.{field, line_text_of}
 use Rattle.ch_model.specs.Spelling.{what_text}
-use Rattle.ch_journal.proofs.Parts.{bind_ok, accepts, accepted_is}
+use Rattle.ch_journal.proofs.Parts.{bind_ok, accepts}
 use Rattle.ch_journal.proofs.Spelled.{tail, field_found, field_before}
 use Rattle.ch_journal.proofs.Respelled.{AllRespell, node_respells, away_respells, label_respells, stranger_respells, proc_respells, send_respells, nsend_respells, again_respells, recv_respells, port_respells, take_respells, end_respells, fail_respells, fall_respells, register_respells, unregister_respells, monitor_respells, link_respells, unwatch_respells, exit_respells, kill_respells, spawn_respells, whereis_respells, shut_respells, join_respells, come_respells, refuse_respells, feed_respells, cut_respells, lose_respells, late_respells, knock_respells, poke_respells, quit_respells, settle_respells}
 

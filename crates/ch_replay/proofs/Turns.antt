@@ -1,24 +1,15 @@
 -- A turn of the replay is a line of the model, and the turns together are the whole.
-use Rattle.std.proofs.Common.{◌≡◌, ℕ, suc, ◌+◌, ◌-◌, ◌<◌, ◌≤◌, ◌^◌, Bool, true, false, cond, ◌||◌, ◌==◌, List, [], ◌∷◌, ◌++◌, length, Option, Some, None, Result, Ok, Err, MatchResult, nat_lt, refl, sym, ◌∙◌, ap, subst, append_assoc, arith}
-use Rattle.std.proofs.lemmas.List.{append-nil}
-use Rattle.std.proofs.lemmas.Bool.Decides.{nat_tests}
+use Rattle.std.proofs.Common.{◌≡◌, ℕ, ◌+◌, ◌-◌, Bool, false, cond, List, [], ◌∷◌, ◌++◌, length, Option, Some, None, Result, Ok, Err, nat_lt, refl, ◌∙◌, ap, subst, append_assoc}
 use Rattle.ch_base.specs.declared.memory.Stop.{Stop}
-use Rattle.ch_base.specs.declared.memory.Stop.TheVariants as stops
 use Rattle.ch_model.specs.declared.refusal.BadKind.{BadKind}
 use Rattle.ch_model.specs.declared.refusal.LineFault.{LineFault}
 use Rattle.ch_model.specs.declared.refusal.LineFault.TheVariants.{Bad, TooLong}
-use Rattle.ch_model.specs.declared.line.Line.{Line}
-use Rattle.ch_model.specs.declared.line.What.{What}
 use Rattle.ch_one_node.specs.States.{World}
-use Rattle.ch_one_node.specs.World.{◌>>=◌, world_step}
-use Rattle.ch_model.specs.LinesTold.{Told}
-use Rattle.ch_model.specs.Lines.{read_line}
-use Rattle.ch_model.specs.LinesBuilt.{one_node}
-use Rattle.ch_model.specs.Journal.{raw_lines, size_of, is_too_long}
-use Rattle.ch_model.specs.Spelling.{log_text}
+use Rattle.ch_one_node.specs.World.{◌>>=◌}
+use Rattle.ch_model.specs.Journal.{size_of, is_too_long}
 use Rattle.ch_lines.specs.declared.grammar.Grammar.TheVariants.{OneNode}
 use Rattle.ch_lines.specs.ReadingState.{ReadingState}
-use Rattle.ch_replay.specs.Replayed.{Progress, went_on, one_line, after_text, replayed, progress_of, onto, IsTurn}
+use Rattle.ch_replay.specs.Replayed.{Progress, one_line, after_text, replayed, progress_of, onto, IsTurn}
 
 abbrev Told2 : Type 0
 Told2 = List ℕ × Option (ℕ × LineFault)
