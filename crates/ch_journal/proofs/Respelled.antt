@@ -1,5 +1,5 @@
 -- Each word's reader reads the canonical text of what it read as that again, where every line is read.
-use Rattle.std.proofs.Common.{◌≡◌, ℕ, not, List, [], ◌∷◌, ◌++◌, codes, Option, Some, Result, Ok, refl, sym, ap, ◌∙◌}
+use Rattle.std.proofs.Common.{◌≡◌, ℕ, true, not, List, [], ◌∷◌, ◌++◌, codes, Option, Some, Result, Ok, refl, sym, ap, subst, ◌∙◌}
 use Rattle.std.specs.Str.{bytes_eq}
 use Rattle.std.specs.Fmt.{decimal}
 use Rattle.std.specs.List.{flat_map}
@@ -11,6 +11,7 @@ use Rattle.ch_model.specs.declared.refusal.BadKind.TheVariants.{Form, Late}
 use Rattle.ch_model.specs.declared.name.End.{End}
 use Rattle.ch_model.specs.declared.name.ProcName.{ProcName}
 use Rattle.ch_model.specs.declared.name.SockName.{SockName}
+use Rattle.ch_model.specs.declared.name.TargetName.{TargetName}
 use Rattle.ch_model.specs.declared.line.What.{What}
 use Rattle.ch_model.specs.declared.line.What.TheVariants as lines
 use Rattle.ch_model.specs.Fields.{need, field_of, last_of, node_name_of, digits_of, word_of, sent_mark_of, bytes_of, address_of, host_of, end_of, text_of, number_in, count_in}
@@ -22,7 +23,7 @@ use Rattle.ch_model.specs.LinesOfPeers.{process_and_peer, process_peer_and_text,
 use Rattle.ch_model.specs.LinesOfSockets.{socket_alone, socket_and_end, shut_line, join_line, come_line, refuse_line, feed_line, cut_line, lose_line, late_line, knock_line, poke_line, quit_line, settle_line}
 use Rattle.ch_model.specs.SpellingFields.{field, line_text_of, process_text, target_text, reference_text, socket_text, end_text, bytes_text}
 use Rattle.ch_model.specs.Spelling.{what_text}
-use Rattle.ch_journal.proofs.Parts.{field_alone, bind_ok, accepts, accepted_is}
+use Rattle.ch_journal.proofs.Parts.{lacks, field_again, field_alone, bind_ok, accepts, accepted_is}
 use Rattle.ch_journal.proofs.Classes.{bytes_found, bytes_lacks, bytes_again}
 use Rattle.ch_journal.proofs.Spelled.{tail, field_found, field_before, then_field, no_field, last_text, name_is, needed_is, word_is, mark_is, host_is, address_is, end_is, number_is, count_is, process_is, named_is, reference_is, socket_is, destination_is}
 
@@ -485,8 +486,30 @@ settle_respells told rest what e =
 
 -- ---- lines with bytes, whose digits are written in lower case
 
-pub send_respells : (told : Told) → AllRespell (codes "send") (send_line told)
+send_again : (told : Told) (by to mark body : List ℕ) (sender : List ℕ × List ℕ) (receiver : (List ℕ × List ℕ) × Option (List ℕ)) (word bytes : List ℕ) (from : ProcName) (goal : TargetName) (one other : List ℕ) → lacks 32 by ≡ true → lacks 32 to ≡ true → lacks 32 mark ≡ true → lacks 32 body ≡ true → process_of by ≡ Ok sender → destination_of to ≡ Ok receiver → sent_mark_of mark ≡ Ok word → bytes_of body ≡ Ok bytes → numbered sender ≡ Ok from → numbered_destination receiver ≡ Ok goal → declared_in told from.node ≡ Ok one → peer_in told (target_node goal) ≡ Ok other → send_line told (Some (by ++ 32 ∷ (to ++ 32 ∷ (mark ++ 32 ∷ body)))) ≡ Ok (lines.Send from goal word bytes)
 unfolding send_line last_of
+send_again told by to mark body sender receiver word bytes from goal one other h0 h1 h2 h3 e0 e1 e2 e3 e4 e5 e6 e7 = rw (
+  field_again by (to ++ 32 ∷ (mark ++ 32 ∷ body)) h0,
+  field_again to (mark ++ 32 ∷ body) h1,
+  field_again mark body h2,
+  field_alone body h3,
+  e0,
+  e1,
+  e2,
+  e3,
+  e4,
+  e5,
+  e6,
+  e7,
+) refl
+
+send_made : (told : Told) (rest : Option (List ℕ)) (by to mark body : List ℕ × Option (List ℕ)) (sender : List ℕ × List ℕ) (receiver : (List ℕ × List ℕ) × Option (List ℕ)) (word bytes : List ℕ) (from : ProcName) (goal : TargetName) (one other : List ℕ) → field_of rest ≡ Ok by → field_of by.1 ≡ Ok to → field_of to.1 ≡ Ok mark → field_of mark.1 ≡ Ok body → process_of by.0 ≡ Ok sender → destination_of to.0 ≡ Ok receiver → sent_mark_of mark.0 ≡ Ok word → bytes_of body.0 ≡ Ok bytes → numbered sender ≡ Ok from → numbered_destination receiver ≡ Ok goal → declared_in told from.node ≡ Ok one → peer_in told (target_node goal) ≡ Ok other → Respells (codes "send") (send_line told) (lines.Send from goal word bytes)
+send_made told rest by to mark body sender receiver word bytes from goal one other f0 f1 f2 f3 e0 e1 e2 e3 e4 e5 e6 e7 =
+    let kept = bytes_found body.0 bytes e3 in
+    record { rest = Some (by.0 ++ 32 ∷ (to.0 ++ 32 ∷ (mark.0 ++ 32 ∷ (bytes_text bytes)))); fields = process_text from ∷ target_text goal ∷ word ∷ bytes_text bytes ∷ []; again = send_again told by.0 to.0 mark.0 (bytes_text bytes) sender receiver word bytes from goal one other (field_found rest by f0).free (field_found by.1 to f1).free (field_found to.1 mark f2).free (bytes_lacks bytes kept) e0 e1 e2 (bytes_again bytes kept) e4 e5 e6 e7; is = refl; spelled = spelled_before by.0 (Some (to.0 ++ 32 ∷ (mark.0 ++ 32 ∷ (bytes_text bytes)))) (target_text goal ∷ word ∷ bytes_text bytes ∷ []) (process_is e0 e4) (spelled_before to.0 (Some (mark.0 ++ 32 ∷ (bytes_text bytes))) (word ∷ bytes_text bytes ∷ []) (destination_is e1 e5) (spelled_before mark.0 (Some (bytes_text bytes)) (bytes_text bytes ∷ []) (mark_is e2) (ap (λ l. 32 ∷ l) (sym (append-nil (bytes_text bytes)))))) }
+
+pub send_respells : (told : Told) → AllRespell (codes "send") (send_line told)
+unfolding send_line
 send_respells told rest what e =
     let by = bind_ok (field_of rest) _ what e in
     let to = bind_ok (field_of by.0.1) _ what by.2 in
@@ -502,29 +525,31 @@ send_respells told rest what e =
     let one = bind_ok (declared_in told from.0.node) _ what goal.2 in
     let other = bind_ok (peer_in told (target_node goal.0)) _ what one.2 in
     let is : lines.Send from.0 goal.0 word.0 bytes.0 ≡ what = accepted_is _ what other.2 in
-    let kept = bytes_found body.0.0 bytes.0 bytes.1 in
-    let rest3 : Option (List ℕ) = Some (bytes_text bytes.0) in
-    let rest2 : Option (List ℕ) = Some (mark.0.0 ++ tail rest3) in
-    let rest1 : Option (List ℕ) = Some (to.0.0 ++ tail rest2) in
-    let rest0 : Option (List ℕ) = Some (by.0.0 ++ tail rest1) in
-    let again : send_line told rest0 ≡ Ok (lines.Send from.0 goal.0 word.0 bytes.0) = rw (
-      field_before by.0.0 rest1 (field_found _ by.0 by.1).free,
-      field_before to.0.0 rest2 (field_found _ to.0 to.1).free,
-      field_before mark.0.0 rest3 (field_found _ mark.0 mark.1).free,
-      field_alone (bytes_text bytes.0) (bytes_lacks bytes.0 kept),
-      sender.1,
-      receiver.1,
-      word.1,
-      bytes_again bytes.0 kept,
-      from.1,
-      goal.1,
-      one.1,
-      other.1,
-    ) refl in
-    record { rest = rest0; fields = process_text from.0 ∷ target_text goal.0 ∷ word.0 ∷ bytes_text bytes.0 ∷ []; again = again ∙ ap accepts is; is = ap what_text (sym is); spelled = spelled_before by.0.0 rest1 (target_text goal.0 ∷ word.0 ∷ bytes_text bytes.0 ∷ []) (process_is sender.1 from.1) (spelled_before to.0.0 rest2 (word.0 ∷ bytes_text bytes.0 ∷ []) (destination_is receiver.1 goal.1) (spelled_before mark.0.0 rest3 (bytes_text bytes.0 ∷ []) (mark_is word.1) (ap (λ l. 32 ∷ l) (sym (append-nil (bytes_text bytes.0)))))) }
+    subst (Respells (codes "send") (send_line told)) is (send_made told rest by.0 to.0 mark.0 body.0 sender.0 receiver.0 word.0 bytes.0 from.0 goal.0 one.0 other.0 by.1 to.1 mark.1 body.1 sender.1 receiver.1 word.1 bytes.1 from.1 goal.1 one.1 other.1)
+
+nsend_again : (told : Told) (by to mark body : List ℕ) (sender : List ℕ × List ℕ) (goal : TargetName) (word bytes : List ℕ) (from : ProcName) (one other : List ℕ) → lacks 32 by ≡ true → lacks 32 to ≡ true → lacks 32 mark ≡ true → lacks 32 body ≡ true → process_of by ≡ Ok sender → named_of to ≡ Ok goal → sent_mark_of mark ≡ Ok word → bytes_of body ≡ Ok bytes → numbered sender ≡ Ok from → declared_in told from.node ≡ Ok one → peer_in told (target_node goal) ≡ Ok other → nsend_line told (Some (by ++ 32 ∷ (to ++ 32 ∷ (mark ++ 32 ∷ body)))) ≡ Ok (lines.Nsend from goal word bytes)
+unfolding nsend_line last_of
+nsend_again told by to mark body sender goal word bytes from one other h0 h1 h2 h3 e0 e1 e2 e3 e4 e5 e6 = rw (
+  field_again by (to ++ 32 ∷ (mark ++ 32 ∷ body)) h0,
+  field_again to (mark ++ 32 ∷ body) h1,
+  field_again mark body h2,
+  field_alone body h3,
+  e0,
+  e1,
+  e2,
+  e3,
+  e4,
+  e5,
+  e6,
+) refl
+
+nsend_made : (told : Told) (rest : Option (List ℕ)) (by to mark body : List ℕ × Option (List ℕ)) (sender : List ℕ × List ℕ) (goal : TargetName) (word bytes : List ℕ) (from : ProcName) (one other : List ℕ) → field_of rest ≡ Ok by → field_of by.1 ≡ Ok to → field_of to.1 ≡ Ok mark → field_of mark.1 ≡ Ok body → process_of by.0 ≡ Ok sender → named_of to.0 ≡ Ok goal → sent_mark_of mark.0 ≡ Ok word → bytes_of body.0 ≡ Ok bytes → numbered sender ≡ Ok from → declared_in told from.node ≡ Ok one → peer_in told (target_node goal) ≡ Ok other → Respells (codes "nsend") (nsend_line told) (lines.Nsend from goal word bytes)
+nsend_made told rest by to mark body sender goal word bytes from one other f0 f1 f2 f3 e0 e1 e2 e3 e4 e5 e6 =
+    let kept = bytes_found body.0 bytes e3 in
+    record { rest = Some (by.0 ++ 32 ∷ (to.0 ++ 32 ∷ (mark.0 ++ 32 ∷ (bytes_text bytes)))); fields = process_text from ∷ target_text goal ∷ word ∷ bytes_text bytes ∷ []; again = nsend_again told by.0 to.0 mark.0 (bytes_text bytes) sender goal word bytes from one other (field_found rest by f0).free (field_found by.1 to f1).free (field_found to.1 mark f2).free (bytes_lacks bytes kept) e0 e1 e2 (bytes_again bytes kept) e4 e5 e6; is = refl; spelled = spelled_before by.0 (Some (to.0 ++ 32 ∷ (mark.0 ++ 32 ∷ (bytes_text bytes)))) (target_text goal ∷ word ∷ bytes_text bytes ∷ []) (process_is e0 e4) (spelled_before to.0 (Some (mark.0 ++ 32 ∷ (bytes_text bytes))) (word ∷ bytes_text bytes ∷ []) (named_is e1) (spelled_before mark.0 (Some (bytes_text bytes)) (bytes_text bytes ∷ []) (mark_is e2) (ap (λ l. 32 ∷ l) (sym (append-nil (bytes_text bytes)))))) }
 
 pub nsend_respells : (told : Told) → AllRespell (codes "nsend") (nsend_line told)
-unfolding nsend_line last_of
+unfolding nsend_line
 nsend_respells told rest what e =
     let by = bind_ok (field_of rest) _ what e in
     let to = bind_ok (field_of by.0.1) _ what by.2 in
@@ -539,28 +564,31 @@ nsend_respells told rest what e =
     let one = bind_ok (declared_in told from.0.node) _ what from.2 in
     let other = bind_ok (peer_in told (target_node goal.0)) _ what one.2 in
     let is : lines.Nsend from.0 goal.0 word.0 bytes.0 ≡ what = accepted_is _ what other.2 in
-    let kept = bytes_found body.0.0 bytes.0 bytes.1 in
-    let rest3 : Option (List ℕ) = Some (bytes_text bytes.0) in
-    let rest2 : Option (List ℕ) = Some (mark.0.0 ++ tail rest3) in
-    let rest1 : Option (List ℕ) = Some (to.0.0 ++ tail rest2) in
-    let rest0 : Option (List ℕ) = Some (by.0.0 ++ tail rest1) in
-    let again : nsend_line told rest0 ≡ Ok (lines.Nsend from.0 goal.0 word.0 bytes.0) = rw (
-      field_before by.0.0 rest1 (field_found _ by.0 by.1).free,
-      field_before to.0.0 rest2 (field_found _ to.0 to.1).free,
-      field_before mark.0.0 rest3 (field_found _ mark.0 mark.1).free,
-      field_alone (bytes_text bytes.0) (bytes_lacks bytes.0 kept),
-      sender.1,
-      goal.1,
-      word.1,
-      bytes_again bytes.0 kept,
-      from.1,
-      one.1,
-      other.1,
-    ) refl in
-    record { rest = rest0; fields = process_text from.0 ∷ target_text goal.0 ∷ word.0 ∷ bytes_text bytes.0 ∷ []; again = again ∙ ap accepts is; is = ap what_text (sym is); spelled = spelled_before by.0.0 rest1 (target_text goal.0 ∷ word.0 ∷ bytes_text bytes.0 ∷ []) (process_is sender.1 from.1) (spelled_before to.0.0 rest2 (word.0 ∷ bytes_text bytes.0 ∷ []) (named_is goal.1) (spelled_before mark.0.0 rest3 (bytes_text bytes.0 ∷ []) (mark_is word.1) (ap (λ l. 32 ∷ l) (sym (append-nil (bytes_text bytes.0)))))) }
+    subst (Respells (codes "nsend") (nsend_line told)) is (nsend_made told rest by.0 to.0 mark.0 body.0 sender.0 goal.0 word.0 bytes.0 from.0 one.0 other.0 by.1 to.1 mark.1 body.1 sender.1 goal.1 word.1 bytes.1 from.1 one.1 other.1)
+
+spawn_again : (told : Told) (by at label args : List ℕ) (actor : List ℕ × List ℕ) (named word bytes : List ℕ) (process : ProcName) (one node : List ℕ) → lacks 32 by ≡ true → lacks 32 at ≡ true → lacks 32 label ≡ true → lacks 32 args ≡ true → process_of by ≡ Ok actor → node_name_of at ≡ Ok named → word_of label ≡ Ok word → bytes_of args ≡ Ok bytes → numbered actor ≡ Ok process → declared_in told process.node ≡ Ok one → peer_in told named ≡ Ok node → spawn_line told (Some (by ++ 32 ∷ (at ++ 32 ∷ (label ++ 32 ∷ args)))) ≡ Ok (lines.Spawn process node word bytes)
+unfolding spawn_line last_of
+spawn_again told by at label args actor named word bytes process one node h0 h1 h2 h3 e0 e1 e2 e3 e4 e5 e6 = rw (
+  field_again by (at ++ 32 ∷ (label ++ 32 ∷ args)) h0,
+  field_again at (label ++ 32 ∷ args) h1,
+  field_again label args h2,
+  field_alone args h3,
+  e0,
+  e1,
+  e2,
+  e3,
+  e4,
+  e5,
+  e6,
+) refl
+
+spawn_made : (told : Told) (rest : Option (List ℕ)) (by at label args : List ℕ × Option (List ℕ)) (actor : List ℕ × List ℕ) (named word bytes : List ℕ) (process : ProcName) (one node : List ℕ) → field_of rest ≡ Ok by → field_of by.1 ≡ Ok at → field_of at.1 ≡ Ok label → field_of label.1 ≡ Ok args → process_of by.0 ≡ Ok actor → node_name_of at.0 ≡ Ok named → word_of label.0 ≡ Ok word → bytes_of args.0 ≡ Ok bytes → numbered actor ≡ Ok process → declared_in told process.node ≡ Ok one → peer_in told named ≡ Ok node → Respells (codes "spawn") (spawn_line told) (lines.Spawn process node word bytes)
+spawn_made told rest by at label args actor named word bytes process one node f0 f1 f2 f3 e0 e1 e2 e3 e4 e5 e6 =
+    let kept = bytes_found args.0 bytes e3 in
+    record { rest = Some (by.0 ++ 32 ∷ (at.0 ++ 32 ∷ (label.0 ++ 32 ∷ (bytes_text bytes)))); fields = process_text process ∷ node ∷ word ∷ bytes_text bytes ∷ []; again = spawn_again told by.0 at.0 label.0 (bytes_text bytes) actor named word bytes process one node (field_found rest by f0).free (field_found by.1 at f1).free (field_found at.1 label f2).free (bytes_lacks bytes kept) e0 e1 e2 (bytes_again bytes kept) e4 e5 e6; is = refl; spelled = spelled_before by.0 (Some (at.0 ++ 32 ∷ (label.0 ++ 32 ∷ (bytes_text bytes)))) (node ∷ word ∷ bytes_text bytes ∷ []) (process_is e0 e4) (spelled_before at.0 (Some (label.0 ++ 32 ∷ (bytes_text bytes))) (word ∷ bytes_text bytes ∷ []) (name_is e1 ∙ peer_is _ e6) (spelled_before label.0 (Some (bytes_text bytes)) (bytes_text bytes ∷ []) (word_is e2) (ap (λ l. 32 ∷ l) (sym (append-nil (bytes_text bytes)))))) }
 
 pub spawn_respells : (told : Told) → AllRespell (codes "spawn") (spawn_line told)
-unfolding spawn_line last_of
+unfolding spawn_line
 spawn_respells told rest what e =
     let by = bind_ok (field_of rest) _ what e in
     let at = bind_ok (field_of by.0.1) _ what by.2 in
@@ -575,28 +603,27 @@ spawn_respells told rest what e =
     let one = bind_ok (declared_in told process.0.node) _ what process.2 in
     let node = bind_ok (peer_in told named.0) _ what one.2 in
     let is : lines.Spawn process.0 node.0 word.0 bytes.0 ≡ what = accepted_is _ what node.2 in
-    let kept = bytes_found args.0.0 bytes.0 bytes.1 in
-    let rest3 : Option (List ℕ) = Some (bytes_text bytes.0) in
-    let rest2 : Option (List ℕ) = Some (label.0.0 ++ tail rest3) in
-    let rest1 : Option (List ℕ) = Some (at.0.0 ++ tail rest2) in
-    let rest0 : Option (List ℕ) = Some (by.0.0 ++ tail rest1) in
-    let again : spawn_line told rest0 ≡ Ok (lines.Spawn process.0 node.0 word.0 bytes.0) = rw (
-      field_before by.0.0 rest1 (field_found _ by.0 by.1).free,
-      field_before at.0.0 rest2 (field_found _ at.0 at.1).free,
-      field_before label.0.0 rest3 (field_found _ label.0 label.1).free,
-      field_alone (bytes_text bytes.0) (bytes_lacks bytes.0 kept),
-      actor.1,
-      named.1,
-      word.1,
-      bytes_again bytes.0 kept,
-      process.1,
-      one.1,
-      node.1,
-    ) refl in
-    record { rest = rest0; fields = process_text process.0 ∷ node.0 ∷ word.0 ∷ bytes_text bytes.0 ∷ []; again = again ∙ ap accepts is; is = ap what_text (sym is); spelled = spelled_before by.0.0 rest1 (node.0 ∷ word.0 ∷ bytes_text bytes.0 ∷ []) (process_is actor.1 process.1) (spelled_before at.0.0 rest2 (word.0 ∷ bytes_text bytes.0 ∷ []) (name_is named.1 ∙ peer_is _ node.1) (spelled_before label.0.0 rest3 (bytes_text bytes.0 ∷ []) (word_is word.1) (ap (λ l. 32 ∷ l) (sym (append-nil (bytes_text bytes.0)))))) }
+    subst (Respells (codes "spawn") (spawn_line told)) is (spawn_made told rest by.0 at.0 label.0 args.0 actor.0 named.0 word.0 bytes.0 process.0 one.0 node.0 by.1 at.1 label.1 args.1 actor.1 named.1 word.1 bytes.1 process.1 one.1 node.1)
+
+poke_again : (told : Told) (sock written : List ℕ) (parts : List ℕ × List ℕ × List ℕ) (bytes : List ℕ) (socket : SockName) (from to : List ℕ) → lacks 32 sock ≡ true → lacks 32 written ≡ true → socket_of sock ≡ Ok parts → bytes_of written ≡ Ok bytes → numbered_socket parts ≡ Ok socket → stranger_in told socket.from ≡ Ok from → peer_in told socket.to ≡ Ok to → poke_line told (Some (sock ++ 32 ∷ written)) ≡ Ok (lines.Poke socket bytes)
+unfolding poke_line last_of
+poke_again told sock written parts bytes socket from to h0 h1 e0 e1 e2 e3 e4 = rw (
+  field_again sock written h0,
+  field_alone written h1,
+  e0,
+  e1,
+  e2,
+  e3,
+  e4,
+) refl
+
+poke_made : (told : Told) (rest : Option (List ℕ)) (sock written : List ℕ × Option (List ℕ)) (parts : List ℕ × List ℕ × List ℕ) (bytes : List ℕ) (socket : SockName) (from to : List ℕ) → field_of rest ≡ Ok sock → field_of sock.1 ≡ Ok written → socket_of sock.0 ≡ Ok parts → bytes_of written.0 ≡ Ok bytes → numbered_socket parts ≡ Ok socket → stranger_in told socket.from ≡ Ok from → peer_in told socket.to ≡ Ok to → Respells (codes "poke") (poke_line told) (lines.Poke socket bytes)
+poke_made told rest sock written parts bytes socket from to f0 f1 e0 e1 e2 e3 e4 =
+    let kept = bytes_found written.0 bytes e1 in
+    record { rest = Some (sock.0 ++ 32 ∷ (bytes_text bytes)); fields = socket_text socket ∷ bytes_text bytes ∷ []; again = poke_again told sock.0 (bytes_text bytes) parts bytes socket from to (field_found rest sock f0).free (bytes_lacks bytes kept) e0 (bytes_again bytes kept) e2 e3 e4; is = refl; spelled = spelled_before sock.0 (Some (bytes_text bytes)) (bytes_text bytes ∷ []) (socket_is e0 e2) (ap (λ l. 32 ∷ l) (sym (append-nil (bytes_text bytes)))) }
 
 pub poke_respells : (told : Told) → AllRespell (codes "poke") (poke_line told)
-unfolding poke_line last_of
+unfolding poke_line
 poke_respells told rest what e =
     let sock = bind_ok (field_of rest) _ what e in
     let written = bind_ok (field_of sock.0.1) _ what sock.2 in
@@ -607,16 +634,4 @@ poke_respells told rest what e =
     let from = bind_ok (stranger_in told socket.0.from) _ what socket.2 in
     let to = bind_ok (peer_in told socket.0.to) _ what from.2 in
     let is : lines.Poke socket.0 bytes.0 ≡ what = accepted_is _ what to.2 in
-    let kept = bytes_found written.0.0 bytes.0 bytes.1 in
-    let rest1 : Option (List ℕ) = Some (bytes_text bytes.0) in
-    let rest0 : Option (List ℕ) = Some (sock.0.0 ++ tail rest1) in
-    let again : poke_line told rest0 ≡ Ok (lines.Poke socket.0 bytes.0) = rw (
-      field_before sock.0.0 rest1 (field_found _ sock.0 sock.1).free,
-      field_alone (bytes_text bytes.0) (bytes_lacks bytes.0 kept),
-      parts.1,
-      bytes_again bytes.0 kept,
-      socket.1,
-      from.1,
-      to.1,
-    ) refl in
-    record { rest = rest0; fields = socket_text socket.0 ∷ bytes_text bytes.0 ∷ []; again = again ∙ ap accepts is; is = ap what_text (sym is); spelled = spelled_before sock.0.0 rest1 (bytes_text bytes.0 ∷ []) (socket_is parts.1 socket.1) (ap (λ l. 32 ∷ l) (sym (append-nil (bytes_text bytes.0)))) }
+    subst (Respells (codes "poke") (poke_line told)) is (poke_made told rest sock.0 written.0 parts.0 bytes.0 socket.0 from.0 to.0 sock.1 written.1 parts.1 bytes.1 socket.1 from.1 to.1)

@@ -1,6 +1,6 @@
 -- What a field that was read shows of its text: it is the canonical text of what was read, but for bytes, whose digits
 -- may be in either case.
-use Rattle.std.proofs.Common.{◌≡◌, ℕ, Bool, true, false, not, ◌&&◌, cond, List, [], ◌∷◌, ◌++◌, codes, Option, Some, None, Result, Ok, Err, nat_le, ◌==◌, refl, sym, ap, subst, ◌∙◌, arith, lit<}
+use Rattle.std.proofs.Common.{◌≡◌, ℕ, Bool, true, false, not, ◌&&◌, cond, List, [], ◌∷◌, ◌++◌, codes, Option, Some, None, Result, Ok, Err, nat_le, ◌==◌, refl, sym, ap, subst, ◌∙◌, append_assoc, arith, lit<}
 use Rattle.std.specs.Str.{bytes_eq}
 use Rattle.std.specs.Fmt.{decimal}
 use Rattle.std.specs.List.{flat_map}
@@ -242,12 +242,12 @@ socket_is {text} {q} {s} e f =
     let made : SockName = record { from = q.0; to = q.1; number = n.0 } in
     let is : made ≡ s = cc in
     parts_of 62 text a.0 a.1 ∙ ap (λ l. l ++ 62 ∷ a.0.1) (name_is b.1) ∙ ap (λ l. b.0 ++ 62 ∷ l) ((process_cut c.1).is ∙ ap (λ l. l ++ 46 ∷ c.0.1) (needed_is _ _ d.1))
-    ∙ ap (λ (t : List ℕ × List ℕ × List ℕ). t.0 ++ 62 ∷ (t.1 ++ 46 ∷ t.2)) cut ∙ ap (λ l. q.0 ++ 62 ∷ (q.1 ++ 46 ∷ l)) (in_range n.1) ∙ ap socket_text is
+    ∙ ap (λ (t : List ℕ × List ℕ × List ℕ). t.0 ++ 62 ∷ (t.1 ++ 46 ∷ t.2)) cut ∙ ap (λ l. q.0 ++ 62 ∷ (q.1 ++ 46 ∷ l)) (in_range n.1) ∙ sym (append_assoc q.0 (62 ∷ q.1) (46 ∷ decimal n.0)) ∙ ap socket_text is
 
 -- ---- destinations
 
 -- the text of a process or a port by its digits
-cut_text : List ℕ × List ℕ → Option (List ℕ) → List ℕ
+abbrev cut_text : List ℕ × List ℕ → Option (List ℕ) → List ℕ
 cut_text q None = q.0 ++ 46 ∷ q.1
 cut_text q (Some port) = (q.0 ++ 46 ∷ q.1) ++ 47 ∷ port
 

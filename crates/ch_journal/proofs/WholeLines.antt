@@ -1,5 +1,5 @@
 -- The canonical text of any line that was accepted is read as that line again, where every line is read.
-use Rattle.std.proofs.Common.{◌≡◌, ℕ, Bool, true, false, cond, List, [], ◌∷◌, ◌++◌, Option, Some, None, Result, Ok, Err, if◌then◌else◌, refl, sym, ap, subst, ◌∙◌, append_assoc}
+use Rattle.std.proofs.Common.{◌≡◌, ℕ, Bool, true, false, cond, List, [], ◌∷◌, ◌++◌, Option, Some, None, Result, Ok, Err, if◌then◌else◌, refl, sym, ap, subst, ◌∙◌}
 use Rattle.std.specs.Str.{bytes_eq}
 use Rattle.std.specs.List.{flat_map}
 use Rattle.std.proofs.lemmas.Slice.Eq.{bytes_eq-Decides}
@@ -48,44 +48,7 @@ word_found told (own ∷ others) all word rest what e = by (bytes_eq word own.wo
         record { rest = r.rest; fields = r.fields; again = rw h r.again; is = r.is; spelled = r.spelled }
 
 every_word : (told : Told) → AllWords told whole.words
-every_word told = (
-  node_respells told,
-  away_respells told,
-  label_respells told,
-  stranger_respells told,
-  proc_respells told,
-  send_respells told,
-  nsend_respells told,
-  again_respells told,
-  recv_respells told,
-  port_respells told,
-  take_respells told,
-  end_respells told,
-  fail_respells told,
-  fall_respells told,
-  register_respells told,
-  unregister_respells told,
-  monitor_respells told,
-  link_respells told,
-  unwatch_respells told,
-  exit_respells told,
-  kill_respells told,
-  spawn_respells told,
-  whereis_respells told,
-  shut_respells told,
-  join_respells told,
-  come_respells told,
-  refuse_respells told,
-  feed_respells told,
-  cut_respells told,
-  lose_respells told,
-  late_respells told,
-  knock_respells told,
-  poke_respells told,
-  quit_respells told,
-  settle_respells told,
-  tt,
-)
+every_word told = (node_respells told, (away_respells told, (label_respells told, (stranger_respells told, (proc_respells told, (send_respells told, (nsend_respells told, (again_respells told, (recv_respells told, (port_respells told, (take_respells told, (end_respells told, (fail_respells told, (fall_respells told, (register_respells told, (unregister_respells told, (monitor_respells told, (link_respells told, (unwatch_respells told, (exit_respells told, (kill_respells told, (spawn_respells told, (whereis_respells told, (shut_respells told, (join_respells told, (come_respells told, (refuse_respells told, (feed_respells told, (cut_respells told, (lose_respells told, (late_respells told, (knock_respells told, (poke_respells told, (quit_respells told, (settle_respells told, tt)))))))))))))))))))))))))))))))))))
 
 -- ---- a line after the header
 
@@ -113,7 +76,7 @@ said_found told text what e =
     let text_is = some_is text (word.0.0 ++ tail word.0.1) cut.is in
     record {
       canonical = word.0.0 ++ tail r.rest;
-      is = r.is ∙ ap (λ l. word.0.0 ++ (l ++ 10 ∷ [])) (sym r.spelled) ∙ sym (append_assoc word.0.0 (tail r.rest) (10 ∷ []));
+      is = r.is ∙ ap (λ l. (word.0.0 ++ l) ++ 10 ∷ []) (sym r.spelled);
       again = rw (field_before word.0.0 r.rest cut.free) r.again;
       says = λ h. same_start told word.0.0 word.0.1 what (tail word.0.1) (tail r.rest) word.2 (ap says_nothing (sym text_is) ∙ h);
     }
