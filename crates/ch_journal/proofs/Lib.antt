@@ -1,5 +1,7 @@
-pub mod Fields
 pub mod Parts
 pub mod Classes
 pub mod Shapes
 pub mod Lines
+pub mod Spelled
+pub mod Respelled
+pub mod WholeLines

@@ -1,4 +1,1 @@
-pub mod Outcome
-pub mod ReadingState
-pub mod Reading
 pub mod Statuses

@@ -1,6 +1,6 @@
 //! Lines that are refused, with their kind and place; the texts of statuses.
 
-use ch_journal::{JournalError, Reading, Status};
+use ch_journal::{Grammar, JournalError, Reading, Status};
 use ch_model::{BadKind, Line};
 use std::alloc::Global;
 use std::process::Abort;
@@ -110,7 +110,7 @@ const NO_NUMBER_OR_NAME: [(&[u8], BadKind); 14] = [
 
 /// A reading of these lines, and what the next one says.
 fn read_after(alloc: Global, before: &[&[u8]], text: &[u8]) -> Result<Option<Line>, JournalError> {
-    let mut reading = Reading::new(alloc);
+    let mut reading = Reading::new(alloc, Grammar::OneNode);
     for line in before {
         reading.line(*line)?;
     }
@@ -152,7 +152,7 @@ fn a_refusal_stays(rt: HostRuntime) {
         line: 3,
         kind: BadKind::Undeclared,
     });
-    let mut reading = Reading::new(rt.alloc());
+    let mut reading = Reading::new(rt.alloc(), Grammar::OneNode);
     assert_eq!(rt; reading.line(b"chjournal 1").err(), None);
     assert_eq!(rt; reading.line(b"node a h:1:0 7").err(), None);
     assert_eq!(rt; reading.line(b"proc b").err(), refused);

@@ -1,64 +1,15 @@
 -- A turn of the replay is a line of the model, and the turns together are the whole.
-use Rattle.std.proofs.Common.{◌≡◌, ℕ, suc, ◌+◌, ◌-◌, ◌<◌, ◌≤◌, ◌^◌, Bool, true, false, cond, ◌||◌, ◌==◌, List, [], ◌∷◌, ◌++◌, length, Option, Some, None, Result, Ok, Err, MatchResult, nat_lt, refl, sym, ◌∙◌, ap, subst, append_assoc, arith}
-use Rattle.std.proofs.lemmas.List.{append-nil}
-use Rattle.std.proofs.lemmas.Bool.Decides.{nat_tests}
+use Rattle.std.proofs.Common.{◌≡◌, ℕ, ◌+◌, ◌-◌, Bool, false, cond, List, [], ◌∷◌, ◌++◌, length, Option, Some, None, Result, Ok, Err, nat_lt, refl, ◌∙◌, ap, subst, append_assoc}
 use Rattle.ch_base.specs.declared.memory.Stop.{Stop}
-use Rattle.ch_base.specs.declared.memory.Stop.TheVariants as stops
 use Rattle.ch_model.specs.declared.refusal.BadKind.{BadKind}
 use Rattle.ch_model.specs.declared.refusal.LineFault.{LineFault}
 use Rattle.ch_model.specs.declared.refusal.LineFault.TheVariants.{Bad, TooLong}
-use Rattle.ch_model.specs.declared.line.Line.{Line}
-use Rattle.ch_model.specs.declared.line.What.{What}
 use Rattle.ch_one_node.specs.States.{World}
-use Rattle.ch_one_node.specs.World.{◌>>=◌, world_step}
-use Rattle.ch_model.specs.LinesTold.{Told}
-use Rattle.ch_model.specs.Lines.{read_line}
-use Rattle.ch_model.specs.LinesBuilt.{one_node}
-use Rattle.ch_model.specs.Journal.{raw_lines, size_of, is_too_long}
-use Rattle.ch_model.specs.Spelling.{log_text}
-use Rattle.ch_journal.specs.declared.reading.JournalError.{JournalError}
-use Rattle.ch_journal.specs.declared.reading.JournalError.TheVariants as reads
-use Rattle.ch_journal.specs.ReadingState.{ReadingState}
-use Rattle.ch_journal.specs.Reading.{Answers, read_on, read_as, next_line, numbered_line}
-use Rattle.ch_replay.specs.Replayed.{Progress, went_on, one_line, after_text, replayed, progress_of, onto, IsTurn}
-
--- what reading a line answers, where none was refused and the number can grow
-pub record WasRead (before now : ReadingState) (text : List ℕ) (line : Option Line) : Type 0 where
-  pub what : Option What
-  pub read : read_line one_node before.told text ≡ Ok (what, now.told)
-  pub line_is : line ≡ numbered_line (before.number + 1) what
-  pub number : now.number ≡ before.number + 1
-  pub fresh : now.refused ≡ None
-
-pub reading_is : (before : ReadingState) (text : List ℕ) → before.refused ≡ None → before.number < 4294967295 → read_on before text ≡ read_as before (before.number + 1) (read_line one_node before.told text)
-reading_is before text fresh few = let n : (before.number == 4294967295) ≡ false = grind (arith, nat_tests) in rw (fresh, n) refl
-
-pub was_read : (before now : ReadingState) (text : List ℕ) (line : Option Line) → before.refused ≡ None → before.number < 4294967295 → Answers (Ok line) before now (read_on before text) → WasRead before now text line
-was_read before now text line fresh few a = by_read (read_line one_node before.told text) refl (subst (λ s. Answers (Ok line) before now s) (reading_is before text fresh few) a)
-  where
-    by_read : (r : Result (Option What × Told) BadKind) → read_line one_node before.told text ≡ r → Answers (Ok line) before now (read_as before (before.number + 1) r) → WasRead before now text line
-    by_read (Ok read) e b = record {
-      what = read.0;
-      read = rw b.1 e;
-      line_is = let h : numbered_line (before.number + 1) read.0 ≡ line = cc in sym h;
-      number = ap (λ (s : ReadingState). s.number) b.1;
-      fresh = ap (λ (s : ReadingState). s.refused) b.1 ∙ fresh;
-    }
-    by_read (Err kind) e b = cc
-
-pub was_refused : (before now : ReadingState) (text : List ℕ) (line : ℕ) (kind : BadKind) → before.refused ≡ None → before.number < 4294967295 → Answers (Err (reads.BadLine line kind)) before now (read_on before text) → read_line one_node before.told text ≡ Err kind
-was_refused before now text line kind fresh few a = by_read (read_line one_node before.told text) refl (subst (λ s. Answers (Err (reads.BadLine line kind)) before now s) (reading_is before text fresh few) a)
-  where
-    by_read : (r : Result (Option What × Told) BadKind) → read_line one_node before.told text ≡ r → Answers (Err (reads.BadLine line kind)) before now (read_as before (before.number + 1) r) → read_line one_node before.told text ≡ Err kind
-    by_read (Ok read) e b = cc
-    by_read (Err other) e b = let h : other ≡ kind = cc in rw (← h) e
-
-pub not_worn : (before now : ReadingState) (text : List ℕ) → before.refused ≡ None → before.number < 4294967295 → Answers (Err reads.Worn) before now (read_on before text) → ⊥
-not_worn before now text fresh few a = by_read (read_line one_node before.told text) (subst (λ s. Answers (Err reads.Worn) before now s) (reading_is before text fresh few) a)
-  where
-    by_read : (r : Result (Option What × Told) BadKind) → Answers (Err reads.Worn) before now (read_as before (before.number + 1) r) → ⊥
-    by_read (Ok read) b = cc
-    by_read (Err other) b = cc
+use Rattle.ch_one_node.specs.World.{◌>>=◌}
+use Rattle.ch_model.specs.Journal.{size_of, is_too_long}
+use Rattle.ch_lines.specs.declared.grammar.Grammar.TheVariants.{OneNode}
+use Rattle.ch_lines.specs.ReadingState.{ReadingState}
+use Rattle.ch_replay.specs.Replayed.{Progress, one_line, after_text, replayed, progress_of, onto, IsTurn}
 
 abbrev Told2 : Type 0
 Told2 = List ℕ × Option (ℕ × LineFault)
@@ -85,11 +36,11 @@ pub turn_goes_on : (before now : ReadingState) (world after : Option World) (lin
     → kind ≡ None → IsTurn (Ok kind) before now world after line old new
     → raw ≡ (line, ended) ∷ rest → nat_lt 8192 (length line) ≡ false → nat_lt room size ≡ false → size ≡ size_of (line, ended)
     → onto old (replayed (progress_of before world) room raw) ≡ goal
-    → (now.refused ≡ None) × (now.number ≡ before.number + 1) × (onto new (replayed (progress_of now after) (room - size) rest) ≡ goal)
+    → (now.grammar ≡ OneNode) × (now.refused ≡ None) × (now.number ≡ before.number + 1) × (onto new (replayed (progress_of now after) (room - size) rest) ≡ goal)
 turn_goes_on before now world after line ended old new (Some kind) room size raw rest goal e t cut short fits is whole = cc
 turn_goes_on before now world after line ended old new None room size raw rest goal e t cut short fits is whole =
     let fits2 : nat_lt room (size_of (line, ended)) ≡ false = subst (λ (k : ℕ). nat_lt room k ≡ false) is fits in
     let not_long : is_too_long room (line, ended) ≡ false = rw (short, fits2) refl in
-    let done : onto (old ++ t.2) (replayed (progress_of now after) (room - size_of (line, ended)) rest) ≡ goal =
-    whole_after (progress_of before world) (progress_of now after) (line, ended) t.2 old room raw rest goal cut not_long t.3 whole in
-    (t.0, t.1, ap (λ (x : List ℕ). onto x (replayed (progress_of now after) (room - size) rest)) t.4 ∙ ap (λ (k : ℕ). onto (old ++ t.2) (replayed (progress_of now after) (room - k) rest)) is ∙ done)
+    let done : onto (old ++ t.3) (replayed (progress_of now after) (room - size_of (line, ended)) rest) ≡ goal =
+    whole_after (progress_of before world) (progress_of now after) (line, ended) t.3 old room raw rest goal cut not_long t.4 whole in
+    (t.0, t.1, t.2, ap (λ (x : List ℕ). onto x (replayed (progress_of now after) (room - size) rest)) t.5 ∙ ap (λ (k : ℕ). onto (old ++ t.3) (replayed (progress_of now after) (room - k) rest)) is ∙ done)

@@ -15,7 +15,8 @@ use Rattle.ch_model.specs.Lines.{read_line}
 use Rattle.ch_model.specs.LinesBuilt.{one_node}
 use Rattle.ch_model.specs.Journal.{longest_journal, raw_lines, size_of, is_too_long}
 use Rattle.ch_model.specs.Spelling.{log_text}
-use Rattle.ch_journal.specs.ReadingState.{ReadingState}
+use Rattle.ch_lines.specs.declared.grammar.Grammar.TheVariants.{OneNode}
+use Rattle.ch_lines.specs.ReadingState.{ReadingState}
 
 -- what the lines so far have told, how many they are, and the world that they made
 pub record Progress : Type 0 where
@@ -74,7 +75,7 @@ progress_of reading world = record { told = reading.told; number = reading.numbe
 -- What a turn did: a line went on, with its text appended; or was refused, and nothing was; or a count is worn.
 abbrev pub IsTurn : Result (Option BadKind) Stop → ReadingState → ReadingState → Option World → Option World → List ℕ → List ℕ → List ℕ → Type 0
 IsTurn (Ok None) before now world after line old new =
-    (now.refused ≡ None) × (now.number ≡ before.number + 1) × (more : List ℕ)
+    (now.grammar ≡ OneNode) × (now.refused ≡ None) × (now.number ≡ before.number + 1) × (more : List ℕ)
     × (one_line (progress_of before world) line ≡ Ok (Ok (more, progress_of now after))) × (new ≡ old ++ more)
 IsTurn (Ok (Some kind)) before now world after line old new = (one_line (progress_of before world) line ≡ Ok (Err kind)) × (new ≡ old)
 IsTurn (Err stops.OutOfMemory) before now world after line old new = Unit {0}

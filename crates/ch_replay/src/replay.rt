@@ -3,12 +3,13 @@
 ghost use Rattle.std.specs.Prelude.{◌≡◌, ℕ, ◌+◌, ◌≤◌, ◌<◌, ◌++◌, ◌∷◌, [], length, OnOk, Ok, Some, None};
 ghost use Rattle.ch_model.specs.Journal.{raw_lines, size_of};
 ghost use Rattle.ch_model.specs.Spelling.{log_text};
+ghost use Rattle.ch_lines.specs.declared.grammar.Grammar.TheVariants.{OneNode};
 ghost use Rattle.ch_replay.specs.Replayed.{Gives, replay_of, progress_of, IsTurn};
 
 use crate::intake::LONGEST_JOURNAL;
 use crate::world::{World, step};
 use ch_base::{OutOfMemory, Stop};
-use ch_journal::{JournalError, Reading, put_entry, split_at_byte};
+use ch_journal::{Grammar, JournalError, Reading, put_entry, split_at_byte};
 use ch_model::{BadKind, Entry, LineFault};
 use std::alloc::Global;
 
@@ -54,6 +55,7 @@ fn turn(
     line: &[u8],
     text: &mut Vec<u8>,
 ) -> Result<Option<BadKind>, Stop>
+    requires grammar { reading.old.grammar ≡ OneNode }
     requires fresh { reading.old.refused ≡ None }
     requires few { reading.old.number < 4294967295 }
     ensures { IsTurn result reading.old reading.new world.old world.new line.now text.old.items text.new.items }
@@ -85,7 +87,7 @@ pub(crate) fn log_journal(alloc: Global, journal: &[u8]) -> Result<Logged, Stop>
             fault: Some((1, LineFault::Bad(BadKind::Form))),
         });
     }
-    let mut reading = Reading::new(alloc);
+    let mut reading = Reading::new(alloc, Grammar::OneNode);
     let mut world = None;
     let mut room = LONGEST_JOURNAL;
     let mut rest = journal;

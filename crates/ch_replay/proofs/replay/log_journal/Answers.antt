@@ -17,4 +17,4 @@ lines-preserved c =
     let is : length c.first_line-ended.result.0.now + c.from.result ≡ size_of (c.first_line-ended.result.0.now, c.first_line-ended.result.1) = ap (λ (k : ℕ). length c.first_line-ended.result.0.now + k) (c.from.ensures ∙ newline_is c.first_line-ended.result.1) in
     let w = turn_goes_on c.lines.reading c.turn.new.reading c.lines.world c.turn.new.world c.first_line-ended.result.0.now c.first_line-ended.result.1 c.lines.text.items c.turn.new.text.items c.in_ok-turn.field-0 c.lines.room (length c.first_line-ended.result.0.now + c.from.result) (raw_lines c.lines.rest.now) (raw_lines c.first_line-ended.result.2.now) (replay_of c.args.journal.now)
     c.in-None.is c.in_ok-turn.ensures c.first_line-ended.ensures.lines short fits is c.lines.invariant.whole in
-    record { fresh = w.0; few = omega (arith, w.1, c.lines.invariant.few, c.first_line-ended.ensures.shorter); whole = w.2 }
+    record { grammar = w.0; fresh = w.1; few = omega (arith, w.2, c.lines.invariant.few, c.first_line-ended.ensures.shorter); whole = w.3 }

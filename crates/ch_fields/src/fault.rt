@@ -1,8 +1,8 @@
 //! Why a line wasn't read, below the count of lines.
 
 ghost use Rattle.std.specs.Prelude.{◌≡◌};
-ghost use Rattle.ch_journal.specs.declared.fault.Fault.TheVariants as faults;
-ghost use Rattle.ch_journal.specs.Outcome.{of_address_error, of_hex_error, of_ident_error};
+ghost use Rattle.ch_fields.specs.declared.fault.Fault.TheVariants as faults;
+ghost use Rattle.ch_fields.specs.Outcome.{of_address_error, of_hex_error, of_ident_error};
 
 use ch_base::{AddressError, OutOfMemory};
 use ch_ident::IdentError;
@@ -11,7 +11,7 @@ use hex::FromHexError;
 
 /// Why a line or a field of it wasn't read.
 #[derive(Debug, Drop)]
-pub(crate) enum Fault {
+pub enum Fault {
     /// The line is refused.
     Bad(BadKind),
     /// No memory was to be had.

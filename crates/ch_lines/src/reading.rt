@@ -1,11 +1,14 @@
 //! A journal's lines, read one after another.
+//!
+//! Below stand what each line says and what the lines have told.
 
 ghost use Rattle.std.specs.Prelude.{◌≡◌};
-ghost use Rattle.ch_journal.specs.ReadingState.{ReadingState, unread};
-ghost use Rattle.ch_journal.specs.Reading.{Answers, read_on, numbered_line as numbered_line_of};
+ghost use Rattle.ch_lines.specs.ReadingState.{ReadingState, unread};
+ghost use Rattle.ch_lines.specs.Reading.{Answers, read_on, numbered_line as numbered_line_of};
 
-use crate::fault::Fault;
+use crate::grammar::Grammar;
 use crate::known::Known;
+use ch_fields::Fault;
 use ch_model::{BadKind, Line, What};
 use std::alloc::Global;
 use std::marker::Model;
@@ -25,31 +28,33 @@ pub enum JournalError {
     Worn,
 }
 
-/// The state of a reading. Contracts see what the lines so far have told, how many they are, and
-/// the number and kind of the line that was refused.
+/// The state of a reading. Contracts see which lines it knows, what the lines so far have told, how
+/// many they are, and the number and kind of the line that was refused.
 #[derive(Debug, Drop)]
 pub struct Reading {
     alloc: Global,
+    grammar: Grammar,
     known: Known,
     number: u32,
     refused: Option<(u32, BadKind)>,
 }
 
 impl Model for Reading {
-    ghost use Rattle.ch_journal.specs.ReadingState.{ReadingState};
+    ghost use Rattle.ch_lines.specs.ReadingState.{ReadingState};
 
     ghost Value = { ReadingState };
 
-    ghost view = { λ r. record { told = r.known; number = r.number; refused = r.refused } };
+    ghost view = { λ r. record { grammar = r.grammar; told = r.known; number = r.number; refused = r.refused } };
 }
 
 impl Reading {
-    /// A reading before the first line. It takes no memory.
-    pub fn new(alloc: Global) -> Reading
-        ensures { result ≡ unread }
+    /// A reading before the first line, of the lines of a grammar. It takes no memory.
+    pub fn new(alloc: Global, grammar: Grammar) -> Reading
+        ensures { result ≡ unread grammar }
     {
         Reading {
             alloc,
+            grammar,
             known: Known::nothing(alloc),
             number: 0,
             refused: None,
@@ -63,7 +68,8 @@ impl Reading {
         self.number
     }
 
-    /// Reads the next line, without its newline. None for the header.
+    /// Reads the next line, without its newline. None for the header, and for a line that is passed
+    /// over.
     ///
     /// `BadLine` where this line or one before it is the first that is refused, with its number and
     /// the first kind of refusal that holds; then it is the answer for good. `OutOfMemory` and
@@ -79,7 +85,7 @@ impl Reading {
             return Err(JournalError::Worn);
         }
         let number = self.number + 1;
-        match self.known.line(self.alloc, bytes) {
+        match self.known.line(self.grammar, self.alloc, bytes) {
             Ok(what) => {
                 self.number = number;
                 Ok(numbered_line(number, what))

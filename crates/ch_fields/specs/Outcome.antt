@@ -8,8 +8,8 @@ use Rattle.ch_ident.specs.declared.error.IdentError.{IdentError}
 use Rattle.ch_ident.specs.declared.error.IdentError.TheVariants as idents
 use Rattle.ch_model.specs.declared.refusal.BadKind.{BadKind}
 use Rattle.ch_model.specs.declared.refusal.BadKind.TheVariants.{Form}
-use Rattle.ch_journal.specs.declared.fault.Fault.{Fault}
-use Rattle.ch_journal.specs.declared.fault.Fault.TheVariants.{Bad, OutOfMemory}
+use Rattle.ch_fields.specs.declared.fault.Fault.{Fault}
+use Rattle.ch_fields.specs.declared.fault.Fault.TheVariants.{Bad, OutOfMemory}
 
 -- want of memory may come at any call; every refusal is the one that reading meets
 abbrev pub Fails : {A : Type 0} → Fault → Result A BadKind → Type 0

@@ -1,26 +1,29 @@
 //! What the lines so far have told, and what the next may ask of it.
+//!
+//! Below stand the tables of declarations; the lines stand above.
 
-ghost use Rattle.std.specs.Prelude.{◌≡◌, OnErr, OnOk, true};
+ghost use Rattle.std.specs.Prelude.{◌≡◌, OnErr, OnOk, IfOk, true};
 ghost use Rattle.std.specs.List.{list_any};
-ghost use Rattle.ch_watch.specs.Same.{same_node};
 ghost use Rattle.ch_model.specs.declared.refusal.BadKind.TheVariants.{Form};
 ghost use Rattle.ch_model.specs.Fields.{need};
-ghost use Rattle.ch_model.specs.LinesTold.{untold, is_declaration as is_declaration_of, told_after, declares_node as declares_node_of, declares_away as declares_away_of, declares_stranger as declares_stranger_of, declares_name as declares_name_of, takes_address as takes_address_of, early_in, declared_in, new_name as new_name_in, new_address as new_address_in};
+ghost use Rattle.ch_model.specs.LinesTold.{untold, is_declaration as is_declaration_of, told_after, declares_node, declares_away, declares_stranger, declares_name as declares_name_of, takes_address as takes_address_of, early_in, declared_in, peer_in, stranger_in, opener_in, new_name as new_name_in, new_address as new_address_in, new_host as new_host_in, new_label as new_label_in};
 ghost use Rattle.ch_model.specs.LinesBuilt.{is_bare as is_bare_of};
-ghost use Rattle.ch_journal.specs.Outcome.{Gives};
+ghost use Rattle.ch_fields.specs.Outcome.{Gives};
 
-use crate::fault::Fault;
+use crate::declared::Declared;
 use ch_base::{Address, OutOfMemory};
+use ch_fields::Fault;
+use ch_ident::Name;
 use ch_model::{BadKind, What};
 use std::alloc::Global;
 use std::marker::Model;
 
 /// What the lines so far have told: the header, the declarations in their order, and whether an event
-/// line came.
+/// line came. What it is asked costs a look-up by key.
 #[derive(Debug, Drop)]
 pub(crate) struct Known {
     pub(crate) header: bool,
-    declarations: Vec<What>,
+    declared: Declared,
     started: bool,
 }
 
@@ -29,7 +32,7 @@ impl Model for Known {
 
     ghost Value = { Told };
 
-    ghost view = { λ k. record { header = k.header; declarations = k.declarations.items; started = k.started } };
+    ghost view = { λ k. record { header = k.header; declarations = k.declared; started = k.started } };
 }
 
 impl Known {
@@ -39,7 +42,7 @@ impl Known {
     {
         Known {
             header: false,
-            declarations: Vec::new(alloc),
+            declared: Declared::nothing(alloc),
             started: false,
         }
     }
@@ -56,29 +59,15 @@ impl Known {
         }
     }
 
-    fn is_bare(&self) -> bool
-        ensures { result ≡ is_bare_of self.now.declarations }
-    {
-        self.declarations.is_empty()
-    }
-
     /// Nothing was declared.
     pub(crate) fn bare(&self) -> Result<bool, Fault>
         ensures { Gives (λ x. x) result (need Form (is_bare_of self.now.declarations) true) }
     {
-        if self.is_bare() {
+        if self.declared.is_empty() {
             Ok(true)
         } else {
             Err(Fault::Bad(BadKind::Form))
         }
-    }
-
-    fn has_node(&self, name: &[u8]) -> bool
-        ensures { result ≡ list_any (declares_node_of name.now) self.now.declarations }
-    {
-        self.declarations
-            .iter()
-            .any(|what| declares_node(name, what))
     }
 
     /// The name, where a `node` line declared it.
@@ -86,19 +75,47 @@ impl Known {
     pub(crate) fn declared<'a>(&self, name: &'a [u8]) -> Result<&'a [u8], Fault>
         ensures { Gives (λ x. x.now) result (declared_in self.now name.now) }
     {
-        if self.has_node(name) {
+        if self.declared.has_node(name) {
             Ok(name)
         } else {
             Err(Fault::Bad(BadKind::Undeclared))
         }
     }
 
-    fn has_name(&self, name: &[u8]) -> bool
-        ensures { result ≡ list_any (declares_name_of name.now) self.now.declarations }
+    /// The name, where a node or another address has it.
+    #[tactic(auto, unfolding(ch_model::specs::LinesTold::peer_in))]
+    pub(crate) fn peer<'a>(&self, name: &'a [u8]) -> Result<&'a [u8], Fault>
+        ensures { Gives (λ x. x.now) result (peer_in self.now name.now) }
     {
-        self.declarations
-            .iter()
-            .any(|what| declares_name(name, what))
+        if self.declared.has_peer(name) {
+            Ok(name)
+        } else {
+            Err(Fault::Bad(BadKind::Undeclared))
+        }
+    }
+
+    /// The name, where a stranger has it.
+    #[tactic(auto, unfolding(ch_model::specs::LinesTold::stranger_in))]
+    pub(crate) fn stranger<'a>(&self, name: &'a [u8]) -> Result<&'a [u8], Fault>
+        ensures { Gives (λ x. x.now) result (stranger_in self.now name.now) }
+    {
+        if self.declared.has_stranger(name) {
+            Ok(name)
+        } else {
+            Err(Fault::Bad(BadKind::Undeclared))
+        }
+    }
+
+    /// The name, where one who opens sockets has it: a node or a stranger.
+    #[tactic(auto, unfolding(ch_model::specs::LinesTold::opener_in))]
+    pub(crate) fn opener<'a>(&self, name: &'a [u8]) -> Result<&'a [u8], Fault>
+        ensures { Gives (λ x. x.now) result (opener_in self.now name.now) }
+    {
+        if self.declared.has_opener(name) {
+            Ok(name)
+        } else {
+            Err(Fault::Bad(BadKind::Undeclared))
+        }
     }
 
     /// The name, where it wasn't declared.
@@ -106,19 +123,11 @@ impl Known {
     pub(crate) fn new_name<'a>(&self, name: &'a [u8]) -> Result<&'a [u8], Fault>
         ensures { Gives (λ x. x.now) result (new_name_in self.now name.now) }
     {
-        if !self.has_name(name) {
+        if !self.declared.has_name(name) {
             Ok(name)
         } else {
             Err(Fault::Bad(BadKind::Repeated))
         }
-    }
-
-    fn has_address(&self, address: &Address) -> bool
-        ensures { result ≡ list_any (takes_address_of address.now) self.now.declarations }
-    {
-        self.declarations
-            .iter()
-            .any(|what| takes_address(address, what))
     }
 
     /// The address, where it wasn't declared and its host is no stranger's.
@@ -126,8 +135,32 @@ impl Known {
     pub(crate) fn new_address(&self, address: Address) -> Result<Address, Fault>
         ensures { Gives (λ x. x) result (new_address_in self.now address) }
     {
-        if !self.has_address(&address) {
+        if !self.declared.takes_address(&address)? {
             Ok(address)
+        } else {
+            Err(Fault::Bad(BadKind::Repeated))
+        }
+    }
+
+    /// A stranger's host, where it is no address's.
+    #[tactic(auto, unfolding(ch_model::specs::LinesTold::new_host))]
+    pub(crate) fn new_host<'a>(&self, host: &'a [u8]) -> Result<&'a [u8], Fault>
+        ensures { Gives (λ x. x.now) result (new_host_in self.now host.now) }
+    {
+        if !self.declared.has_host(host) {
+            Ok(host)
+        } else {
+            Err(Fault::Bad(BadKind::Repeated))
+        }
+    }
+
+    /// The label, where the node doesn't have it.
+    #[tactic(auto, unfolding(ch_model::specs::LinesTold::new_label))]
+    pub(crate) fn new_label(&self, node: &[u8], label: Name) -> Result<Name, Fault>
+        ensures { Gives (λ x. x) result (new_label_in self.now node.now label) }
+    {
+        if !self.declared.has_label(node, label.bytes.as_slice())? {
+            Ok(label)
         } else {
             Err(Fault::Bad(BadKind::Repeated))
         }
@@ -139,7 +172,7 @@ impl Known {
         ensures kept { OnErr result (self.new ≡ self.old) }
     {
         if is_declaration(what) {
-            self.declarations.push(what.copy()?)?;
+            self.declared.add(what)?;
         } else {
             self.started = true;
         }
@@ -156,58 +189,6 @@ fn is_declaration(what: &What) -> bool
         What::Away { .. } => true,
         What::Label { .. } => true,
         What::Stranger { .. } => true,
-        _ => false,
-    }
-}
-
-fn declares_node(name: &[u8], what: &What) -> bool
-    ensures { result ≡ declares_node_of name.now what.now }
-{
-    match what {
-        What::Node { name: own, .. } => name == own.as_slice(),
-        _ => false,
-    }
-}
-
-fn declares_away(name: &[u8], what: &What) -> bool
-    ensures { result ≡ declares_away_of name.now what.now }
-{
-    match what {
-        What::Away { name: own, .. } => name == own.as_slice(),
-        _ => false,
-    }
-}
-
-fn declares_stranger(name: &[u8], what: &What) -> bool
-    ensures { result ≡ declares_stranger_of name.now what.now }
-{
-    match what {
-        What::Stranger { name: own, .. } => name == own.as_slice(),
-        _ => false,
-    }
-}
-
-fn declares_name(name: &[u8], what: &What) -> bool
-    ensures { result ≡ declares_name_of name.now what.now }
-{
-    declares_node(name, what) || declares_away(name, what) || declares_stranger(name, what)
-}
-
-#[tactic(auto, unfolding(ch_watch::specs::Same::same_node))]
-fn same_address(a: &Address, b: &Address) -> bool
-    ensures { result ≡ same_node a.now b.now }
-{
-    a.host.as_slice() == b.host.as_slice() && a.port == b.port && a.id == b.id
-}
-
-/// Whether a line declares the address, or its host as a stranger's.
-fn takes_address(address: &Address, what: &What) -> bool
-    ensures { result ≡ takes_address_of address.now what.now }
-{
-    match what {
-        What::Node { address: own, .. } => same_address(address, own),
-        What::Away { address: own, .. } => same_address(address, own),
-        What::Stranger { host, .. } => address.host.as_slice() == host.as_slice(),
         _ => false,
     }
 }

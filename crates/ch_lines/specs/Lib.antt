@@ -1,0 +1,4 @@
+pub mod Tables
+pub mod Grammars
+pub mod ReadingState
+pub mod Reading
