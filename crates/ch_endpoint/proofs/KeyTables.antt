@@ -1,16 +1,16 @@
 -- The links of a host by their keys: what is found under a key is the link of that endpoint and peer.
-use Rattle.std.proofs.Common.{◌≡◌, ℕ, zero, suc, ◌+◌, ◌<◌, ◌≤◌, Bool, true, false, not, cond, ◌&&◌, ◌||◌, ◌==◌, nat_lt, List, [], ◌∷◌, ◌++◌, length, take, get_or, find, Option, Some, None, IfSome, refl, ap, sym, subst, ◌∙◌, arith}
+use Rattle.std.proofs.Common.{◌≡◌, ℕ, zero, suc, ◌+◌, ◌<◌, ◌≤◌, Bool, true, false, not, cond, ◌&&◌, ◌||◌, ◌==◌, nat_lt, List, [], ◌∷◌, ◌++◌, length, take, get_or, Option, Some, None, IfSome, refl, ap, sym, subst, ◌∙◌, arith}
 use Rattle.std.specs.List.{position_or_len, position, list_any}
 use Rattle.std.specs.Prelude.{set, slice_set}
 use Rattle.std.specs.Str.{bytes_eq}
-use Rattle.std.proofs.lemmas.Bool.{ltb-true, ltb-false, lt-ltb, le-ltb}
+use Rattle.std.proofs.lemmas.Bool.{ltb-true, lt-ltb, le-ltb}
 use Rattle.std.proofs.Math.Seq.{take-append_seam}
 use Rattle.std.proofs.lemmas.List.{length-append}
 use Rattle.std.proofs.lemmas.Slice.Eq.{bytes_eq-Decides}
 use Rattle.ch_base.specs.declared.address.Address.{Address}
 use Rattle.ch_watch.specs.Same.{same_node}
 use Rattle.ch_model.specs.HostState.{Link}
-use Rattle.ch_model.specs.HostSteps.{is_link, new_link}
+use Rattle.ch_model.specs.HostSteps.{is_link}
 use Rattle.ch_endpoint.specs.LinkKeys.{IsHostAt, IsKey, AreKeys}
 use Rattle.ch_endpoint.proofs.Tables.{number_is, number_same, found_there, found_passes}
 use Rattle.ch_endpoint.proofs.SocketTables.{turned}

@@ -12,3 +12,4 @@ pub mod Longer
 pub mod SocketTables
 pub mod NextItem
 pub mod KeyTables
+pub mod CarrierTables

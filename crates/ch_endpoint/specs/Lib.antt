@@ -15,3 +15,4 @@ pub mod Unread
 pub mod Readers
 pub mod ReadySets
 pub mod LinkKeys
+pub mod Carriers

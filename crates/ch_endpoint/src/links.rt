@@ -2,25 +2,26 @@
 //!
 //! One link stands below; the host's calls stand above.
 
-ghost use Rattle.std.specs.Prelude.{◌≡◌, ◌<◌, ◌+◌, true, [], length, position, find, IfSome, IfOk, OnOk, OnErr, MatchOption, None, Some};
+ghost use Rattle.std.specs.Prelude.{◌≡◌, ◌<◌, ◌≤◌, ◌+◌, true, [], length, drop, option_map, position, find, IfSome, IfOk, OnOk, OnErr, MatchOption, None, Some};
 ghost use Rattle.std.specs.Option.{option_copied};
 ghost use Rattle.ch_model.specs.HostSteps.{is_link, link_or_new, store_link};
 ghost use Rattle.ch_model.specs.HostWrites.{is_counted, counted_in};
 ghost use Rattle.ch_model.specs.HostCalls.{carries};
 ghost use Rattle.ch_endpoint.specs.Places.{Apart, IsPlaceOf};
 ghost use Rattle.ch_endpoint.specs.Shuts.{peers_of};
+ghost use Rattle.ch_endpoint.specs.Carriers.{lower as lower_of};
 ghost use Rattle.ch_endpoint.specs.Waits.{giving, waiting, forgetting, closing};
 ghost use Rattle.ch_endpoint.specs.Arrivals.{may_create, creating, closing_id};
 
 use crate::link::{Link, Waiting};
 use ch_base::{Address, OutOfMemory};
 use ch_link::LinkState;
-use indexmap::IndexSet;
+use indexmap::{IndexMap, IndexSet};
 use std::alloc::Global;
 use std::marker::Model;
 
-/// Links in order of first use. Contracts see the list of them. A link is looked up by its endpoint and peer without
-/// a walk; a connection is looked for among the links of its endpoint.
+/// Links in order of first use. Contracts see the list of them. A link is looked up by its endpoint and peer, and that
+/// of a connection is looked for from a place that is known for it: its own, where a number is given once.
 #[derive(Drop)]
 pub(crate) struct Links {
     rows: Vec<Link>,
@@ -28,6 +29,9 @@ pub(crate) struct Links {
     hosts: IndexSet<Vec<u8>>,
     /// For each link, in order, its endpoint, the place of its peer's host text, and its peer's port and number.
     keys: IndexSet<(u32, usize, u16, u32)>,
+    /// For each endpoint and connection that was given an id, a place such that no link before it has the connection
+    /// open.
+    carriers: IndexMap<(u32, u64), usize>,
 }
 
 impl Model for Links {
@@ -38,10 +42,11 @@ impl Model for Links {
 
     ghost use Rattle.ch_endpoint.specs.Places.{Apart};
     ghost use Rattle.ch_endpoint.specs.LinkKeys.{AreKeys};
+    ghost use Rattle.ch_endpoint.specs.Carriers.{AreCarriers};
 
     ghost view = { λ links. links.rows.items };
 
-    ghost invariant = { λ links. Apart links.rows.items × AreKeys (λ text. text.items) links.hosts.keys links.keys.keys links.rows.items };
+    ghost invariant = { λ links. Apart links.rows.items × AreKeys (λ text. text.items) links.hosts.keys links.keys.keys links.rows.items × AreCarriers links.carriers.entries links.rows.items };
 }
 
 impl Links {
@@ -53,6 +58,7 @@ impl Links {
             rows: Vec::new(alloc),
             hosts: IndexSet::new(alloc),
             keys: IndexSet::new(alloc),
+            carriers: IndexMap::new(alloc),
         }
     }
 
@@ -128,6 +134,8 @@ impl Links {
         ensures ok { OnOk result (self.new ≡ store_link (giving conn (link_or_new end peer.now (find (is_link end peer.now) self.old))) self.old) }
     {
         let place = self.made(end, peer)?;
+        let first = lower(self.carriers.get(&(end, conn)).copied(), place);
+        self.carriers.insert((end, conn), first)?;
         let id = self.rows[place].give(conn)?;
         Ok(id)
     }
@@ -174,10 +182,13 @@ impl Links {
         ensures place { result ≡ position (carries end conn) self.now }
         ensures within { IfSome result (λ place. place < length self.now) }
     {
-        self.rows.iter().position(|link| link.carries(end, conn))
+        match self.carriers.get(&(end, conn)) {
+            None => None,
+            Some(first) => place_from(self.rows.as_slice(), *first, end, conn),
+        }
     }
 
-    /// The peer of the link on which an endpoint has this connection open. It walks the links.
+    /// The peer of the link on which an endpoint has this connection open.
     pub(crate) fn carrier(&self, end: u32, conn: u64) -> Option<&Address>
         ensures { MatchOption result (find (carries end conn) self.now ≡ None) (λ peer. find (carries end conn) self.now ≡ Some (link_or_new end peer.now (find (is_link end peer.now) self.now))) }
     {
@@ -226,6 +237,35 @@ impl Links {
         ensures { IfOk result (λ peers. peers.items ≡ peers_of end self.now) }
     {
         peers_among(*self.rows.allocator(), end, self.rows.as_slice())
+    }
+}
+
+/// Of a place that may be known, and another, the lower one.
+fn lower(known: Option<usize>, place: usize) -> usize
+    ensures { result ≡ lower_of known place }
+{
+    match known {
+        None => place,
+        Some(first) => if first < place { first } else { place },
+    }
+}
+
+/// The place of the first of these links on which an endpoint has a connection open.
+fn place_among(links: &[Link], end: u32, conn: u64) -> Option<usize>
+    ensures place { result ≡ position (carries end conn) links.now }
+    ensures within { IfSome result (λ place. place < length links.now) }
+{
+    links.iter().position(|link| link.carries(end, conn))
+}
+
+/// The place of the first link, from this one on, on which an endpoint has a connection open.
+fn place_from(links: &[Link], first: usize, end: u32, conn: u64) -> Option<usize>
+    requires { first ≤ length links.now }
+    ensures { result ≡ option_map (λ more. first + more) (position (carries end conn) (drop first links.now)) }
+{
+    match place_among(&links[first..], end, conn) {
+        None => None,
+        Some(more) => Some(first + more),
     }
 }
 
