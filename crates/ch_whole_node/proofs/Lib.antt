@@ -4,3 +4,5 @@ pub mod Losses
 pub mod Sorted
 pub mod Keyed
 pub mod Steps
+pub mod Found
+pub mod Numbered

@@ -3,3 +3,4 @@ pub mod Stages
 pub mod Calls
 pub mod Bindings
 pub mod Keys
+pub mod Incoming

@@ -8,7 +8,7 @@ ghost use Rattle.ch_whole_node.specs.Bindings.{bound_of};
 ghost use Rattle.ch_whole_node.specs.Calls.{Halts};
 
 use crate::acts::Outcome;
-use crate::arrived::{Arrived, Binding, drop_conn, on_conn, rebound_all};
+use crate::arrived::{Arrived, Binding};
 use crate::halt::Halt;
 use crate::same::{node_of, same_node};
 use crate::state::State;
@@ -17,7 +17,6 @@ use ch_ident::{
     IdentError, Identifier, Message, NodeMessage, ProcessId, SendPortId, take_message, take_user,
 };
 use ch_static::Target;
-use std::mem;
 
 impl State {
     #[tactic(auto, unfolding(ch_model::specs::NodeArrivals::bound_between))]
@@ -119,12 +118,7 @@ impl State {
     pub(crate) fn arrives(&mut self, conn: u64, peer: Address) -> Result<(), OutOfMemory>
         ensures { OnOk result (self.new ≡ arrives_of self.old conn peer) }
     {
-        self.arrived.push(Arrived {
-            conn,
-            peer,
-            binding: Binding::Unread,
-        })?;
-        Ok(())
+        self.arrived.add(conn, peer)
     }
 
     /// A peer has closed a connection.
@@ -132,7 +126,7 @@ impl State {
     pub(crate) fn departs(&mut self, conn: u64)
         ensures { self.new ≡ departs_of self.old conn }
     {
-        drop_conn(&mut self.arrived, conn);
+        self.arrived.drop_conn(conn);
     }
 
     /// A connection is bound so.
@@ -140,10 +134,7 @@ impl State {
     fn bind(&mut self, conn: u64, binding: &Binding) -> Result<(), OutOfMemory>
         ensures { OnOk result (self.new ≡ bind_of self.old conn (bound_of binding.now)) }
     {
-        let alloc = self.alloc();
-        let arrived = mem::replace(&mut self.arrived, Vec::new(alloc));
-        self.arrived = rebound_all(alloc, arrived, conn, binding)?;
-        Ok(())
+        self.arrived.bind(conn, binding)
     }
 
     /// A payload on a connection, by what that is for.
@@ -166,7 +157,7 @@ impl State {
     fn arrived_on(&self, conn: u64) -> Result<Option<Arrived>, OutOfMemory>
         ensures { IfOk result (λ a. a ≡ find (λ arrived. arrived.conn == conn) self.now.arrived) }
     {
-        match on_conn(&self.arrived, conn) {
+        match self.arrived.on(conn) {
             None => Ok(None),
             Some(arrived) => Ok(Some(arrived.copy()?)),
         }

@@ -1,16 +1,12 @@
 //! A connection that arrived.
 
-ghost use Rattle.std.specs.Prelude.{◌≡◌, ◌==◌, not, map, filter, find, IfOk};
-ghost use Rattle.std.specs.Option.{option_copied};
-ghost use Rattle.ch_watch.specs.Same.{same_node as same_node_of};
+ghost use Rattle.std.specs.Prelude.{◌≡◌, IfOk, OnOk};
 ghost use Rattle.ch_model.specs.NodeArrivals.{rebound as rebound_of};
 ghost use Rattle.ch_whole_node.specs.Bindings.{bound_of};
 
-use crate::same::same_node;
 use ch_base::{Address, OutOfMemory};
 use ch_ident::ProcessId;
 use ch_static::Target;
-use std::alloc::Global;
 use std::marker::Model;
 
 /// What a connection that arrived is for, by its opening message.
@@ -75,51 +71,14 @@ impl Arrived {
         })
     }
 
-    /// The connection, bound so where it is that one.
-    pub fn rebound(self, conn: u64, binding: &Binding) -> Result<Arrived, OutOfMemory>
-        ensures { IfOk result (λ a. a ≡ rebound_of conn (bound_of binding.now) self) }
+    /// It is bound so where it has that number.
+    pub fn rebind(&mut self, conn: u64, binding: &Binding) -> Result<(), OutOfMemory>
+        ensures ok { OnOk result (self.new ≡ rebound_of conn (bound_of binding.now) self.old) }
+        ensures number { self.new.conn ≡ self.old.conn }
     {
-        let mut arrived = self;
-        if arrived.conn == conn {
-            arrived.binding = binding.copy()?;
+        if self.conn == conn {
+            self.binding = binding.copy()?;
         }
-        Ok(arrived)
+        Ok(())
     }
-}
-
-/// The connections, with that one bound so.
-pub(crate) fn rebound_all(
-    alloc: Global,
-    arrived: Vec<Arrived>,
-    conn: u64,
-    binding: &Binding,
-) -> Result<Vec<Arrived>, OutOfMemory>
-    ensures { IfOk result (λ bound. bound.items ≡ map (rebound_of conn (bound_of binding.now)) arrived.items) }
-{
-    let mut bound = Vec::new(alloc);
-    for one in arrived {
-        bound.push(one.rebound(conn, binding)?)?;
-    }
-    Ok(bound)
-}
-
-/// The connection of that number.
-pub(crate) fn on_conn(arrived: &[Arrived], conn: u64) -> Option<&Arrived>
-    ensures { option_copied result ≡ find (λ arrived. arrived.conn == conn) arrived.now }
-{
-    arrived.iter().find(|arrived| arrived.conn == conn)
-}
-
-/// The connection of that number is gone.
-pub(crate) fn drop_conn(arrived: &mut Vec<Arrived>, conn: u64)
-    ensures { arrived.new.items ≡ filter (λ arrived. not (arrived.conn == conn)) arrived.old.items }
-{
-    arrived.retain(|arrived| arrived.conn != conn);
-}
-
-/// The connections of a peer are gone.
-pub(crate) fn drop_peer(arrived: &mut Vec<Arrived>, peer: &Address)
-    ensures { arrived.new.items ≡ filter (λ arrived. not (same_node_of arrived.peer peer.now)) arrived.old.items }
-{
-    arrived.retain(|arrived| !same_node(&arrived.peer, peer));
 }

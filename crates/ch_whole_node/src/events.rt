@@ -8,7 +8,6 @@ ghost use Rattle.ch_model.specs.Node.{node_event};
 ghost use Rattle.ch_whole_node.specs.Calls.{Halts};
 
 use crate::acts::Outcome;
-use crate::arrived::drop_peer;
 use crate::halt::Halt;
 use crate::lives::reason_of;
 use crate::same::same_node;
@@ -53,7 +52,7 @@ impl State {
         self.pairs.lose(peer)?;
         let lost = self.watches.lost(peer)?;
         drop_node(&mut self.to_nodes, peer);
-        drop_peer(&mut self.arrived, peer);
+        self.arrived.drop_peer(peer);
         self.lost_all_told(why, &lost)
     }
 

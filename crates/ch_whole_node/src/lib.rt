@@ -16,6 +16,7 @@ mod ends;
 mod events;
 mod halt;
 mod ids;
+mod incoming;
 mod kept;
 mod key;
 mod lives;

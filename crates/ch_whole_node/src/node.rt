@@ -105,13 +105,15 @@ impl Node {
 
     /// What the node makes of an event of its endpoint: a connection that a peer opens or closes, a
     /// payload on it, or the loss of the link with a peer; the close of its own endpoint changes nothing.
-    /// A payload that isn't read, or that its connection isn't for, changes nothing. It stops with `Worn`
-    /// exactly where a count that it would raise can't grow. After a stop the node answers `OutOfMemory`
-    /// for good. What has no spelling in an answer to another node is told as want of memory, as in
-    /// `command`.
+    /// The first payload of a connection says what that is for; a later one that isn't read, or that its
+    /// connection isn't for, changes nothing. It stops with `Worn` exactly where a count that it would
+    /// raise can't grow. After a stop the node answers `OutOfMemory` for good. What has no spelling in an
+    /// answer to another node is told as want of memory, as in `command`.
     ///
-    /// Cost: an event of a connection walks those that arrived; a failed link walks these, the pairs,
-    /// the open numbers and the watches kept.
+    /// Cost: a message finds its connection by halving while the numbers of those that arrived rise, as
+    /// a host gives them, and else by a walk. The first payload of a connection and its closing walk the
+    /// connections that arrived; a failed link walks these, the pairs, the open numbers and the watches
+    /// kept.
     pub fn event(&mut self, event: Event) -> Result<Outcome, CommandError>
         ensures does { MatchResult result (λ acts. stopping (node_event self.old.state event) ≡ Ok (acts.items, self.new.state)) (λ e. Fails e (stopping (node_event self.old.state event))) }
         ensures err { IfErr result (λ e. Leaves self.old self.new e) }

@@ -9,8 +9,8 @@ ghost use Rattle.ch_model.specs.NodeLives.{make as make_of};
 ghost use Rattle.ch_whole_node.specs.Calls.{Halts};
 
 use crate::acts::{Outcome, noted};
-use crate::arrived::Arrived;
 use crate::halt::Halt;
+use crate::incoming::Incoming;
 use crate::pairs::Pairs;
 use ch_base::{Address, Text};
 use ch_mail::{Life, Mail};
@@ -34,7 +34,7 @@ pub(crate) struct State {
     pub(crate) pairs: Pairs,
     pub(crate) opened: u64,
     pub(crate) to_nodes: Vec<(Address, u64)>,
-    pub(crate) arrived: Vec<Arrived>,
+    pub(crate) arrived: Incoming,
 }
 
 impl Model for State {
@@ -42,7 +42,7 @@ impl Model for State {
 
     ghost Value = { NodeState };
 
-    ghost view = { λ n. record { own = n.own; unique = n.unique; labels = n.labels; is_shut = n.is_shut; mail = n.mail; args = n.args.items; watches = n.watches; pairs = n.pairs; opened = n.opened; to_nodes = n.to_nodes.items; arrived = n.arrived.items } };
+    ghost view = { λ n. record { own = n.own; unique = n.unique; labels = n.labels; is_shut = n.is_shut; mail = n.mail; args = n.args.items; watches = n.watches; pairs = n.pairs; opened = n.opened; to_nodes = n.to_nodes.items; arrived = n.arrived } };
 }
 
 /// A count that isn't its type's last.
@@ -76,7 +76,7 @@ impl State {
             pairs: Pairs::new(alloc),
             opened: 0,
             to_nodes: Vec::new(alloc),
-            arrived: Vec::new(alloc),
+            arrived: Incoming::new(alloc),
         }
     }
 
