@@ -4,7 +4,6 @@ use Rattle.std.specs.Prelude.{set}
 use Rattle.std.proofs.lemmas.List.{append_assoc, at_drop_more, drop-set-lt, take-set, get_or-set_same, take_more, length-set}
 use Rattle.ch_base.specs.declared.address.Address.{Address}
 use Rattle.ch_base.specs.declared.memory.Stop.{Stop}
-use Rattle.ch_base.specs.declared.memory.Stop.TheVariants as stops_of
 use Rattle.ch_model.specs.NodeState.{Pair}
 use Rattle.ch_model.specs.NodeActs.{◌>>=◌}
 use Rattle.ch_model.specs.NodePairs.{lost_pair, lost_pairs}

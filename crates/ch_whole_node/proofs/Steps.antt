@@ -1,8 +1,7 @@
 -- What a step of the code does is what the model's does, where some of what it uses is known by another name.
-use Rattle.std.proofs.Common.{◌≡◌, ℕ, List, filter, not, Result, Ok, Err, MatchResult, subst, refl, sym, ap, ◌∙◌}
+use Rattle.std.proofs.Common.{◌≡◌, ℕ, List, filter, not, Result, Ok, MatchResult, subst, sym, ap, ◌∙◌}
 use Rattle.ch_base.specs.declared.address.Address.{Address}
 use Rattle.ch_base.specs.declared.event.Why.{Why}
-use Rattle.ch_base.specs.declared.memory.Stop.{Stop}
 use Rattle.ch_ident.specs.declared.reason.Reason.{Reason}
 use Rattle.ch_mail.specs.Process.{Process}
 use Rattle.ch_mail.specs.Mail.{end_of}

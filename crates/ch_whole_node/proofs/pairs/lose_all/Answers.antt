@@ -1,6 +1,6 @@
 use Rattle.std.proofs.Common.{arith}
 use Rattle.ch_whole_node.proofs.Keyed.{same_all, same_set}
-use Rattle.ch_whole_node.proofs.Losses.{none_in_front, next, halted}
+use Rattle.ch_whole_node.proofs.Losses.{none_in_front, next}
 use Rattle.ch_whole_node.proofs.pairs.lose_all.Goals as goal
 
 pub loop-pair-init : goal.loop-pair-init
