@@ -2,14 +2,6 @@
 
 use ch_light::{Incoming, LightError, Outgoing};
 
-/// Gives an id to a connection that has none.
-fn give_free(out: &mut Outgoing, conn: u64) -> Result<u32, LightError> {
-    match out.id_of(conn) {
-        Some(_) => Err(LightError::NotOpen),
-        None => out.give(conn),
-    }
-}
-
 /// The 65,536th id is the last.
 #[test]
 fn gives_ids_to_the_last(rt: HostRuntime) {
@@ -28,13 +20,13 @@ fn gives_ids_to_the_last(rt: HostRuntime) {
 fn closes_given_ids(rt: HostRuntime) {
     let mut out = Outgoing::new(rt.alloc());
     assert_eq!(rt; out.close(8), Err(LightError::NotOpen));
-    assert_eq!(rt; give_free(&mut out, 8), Ok(1024));
-    assert_eq!(rt; give_free(&mut out, 10), Ok(1025));
+    assert_eq!(rt; out.give(8), Ok(1024));
+    assert_eq!(rt; out.give(10), Ok(1025));
     assert_eq!(rt; out.id_of(10), Some(1025));
     assert_eq!(rt; out.close(8), Ok(1024));
     assert_eq!(rt; out.id_of(8), None);
     assert_eq!(rt; out.close(8), Err(LightError::NotOpen));
-    assert_eq!(rt; give_free(&mut out, 8), Ok(1026));
+    assert_eq!(rt; out.give(8), Ok(1026));
     assert_eq!(rt; out.id_of(8), Some(1026));
     assert_eq!(rt; out.given(), 3);
 }
