@@ -4,6 +4,7 @@ ghost use Rattle.std.specs.Prelude.{◌≡◌, ℕ, ◌+◌, ◌≤◌, ◌<◌,
 ghost use Rattle.ch_model.specs.Journal.{raw_lines, size_of};
 ghost use Rattle.ch_model.specs.Spelling.{log_text};
 ghost use Rattle.ch_lines.specs.declared.grammar.Grammar.TheVariants.{OneNode};
+ghost use Rattle.ch_lines.specs.ReadingState.{unread};
 ghost use Rattle.ch_replay.specs.Replayed.{Gives, replay_of, progress_of, IsTurn};
 
 use crate::intake::LONGEST_JOURNAL;
@@ -75,9 +76,17 @@ fn turn(
     }
 }
 
-/// The log of a journal's text, up to the first line that is refused or too long.
-pub(crate) fn log_journal(alloc: Global, journal: &[u8]) -> Result<Logged, Stop>
-    requires { length journal.now ≤ 16777217 }
+/// The log of a journal's text, read by a new reading and run from no world. Both are lent, so that the walk over
+/// the lines drops neither.
+fn log_lines(
+    alloc: Global,
+    journal: &[u8],
+    reading: &mut Reading,
+    world: &mut Option<World>,
+) -> Result<Logged, Stop>
+    requires few { length journal.now ≤ 16777217 }
+    requires unread { reading.old ≡ unread OneNode }
+    requires empty { world.old ≡ None }
     ensures { Gives (λ l. (l.text.items, l.fault)) result (replay_of journal.now) }
 {
     let mut text = Vec::new(alloc);
@@ -87,8 +96,6 @@ pub(crate) fn log_journal(alloc: Global, journal: &[u8]) -> Result<Logged, Stop>
             fault: Some((1, LineFault::Bad(BadKind::Form))),
         });
     }
-    let mut reading = Reading::new(alloc, Grammar::OneNode);
-    let mut world = None;
     let mut room = LONGEST_JOURNAL;
     let mut rest = journal;
     'lines: while !rest.is_empty() {
@@ -101,7 +108,7 @@ pub(crate) fn log_journal(alloc: Global, journal: &[u8]) -> Result<Logged, Stop>
                 fault: Some((number, LineFault::TooLong)),
             });
         }
-        match turn(alloc, &mut reading, &mut world, line, &mut text)? {
+        match turn(alloc, reading, world, line, &mut text)? {
             None => {
                 room -= size;
                 rest = after;
@@ -115,4 +122,14 @@ pub(crate) fn log_journal(alloc: Global, journal: &[u8]) -> Result<Logged, Stop>
         }
     }
     Ok(Logged { text, fault: None })
+}
+
+/// The log of a journal's text, up to the first line that is refused or too long.
+pub(crate) fn log_journal(alloc: Global, journal: &[u8]) -> Result<Logged, Stop>
+    requires { length journal.now ≤ 16777217 }
+    ensures { Gives (λ l. (l.text.items, l.fault)) result (replay_of journal.now) }
+{
+    let mut reading = Reading::new(alloc, Grammar::OneNode);
+    let mut world = None;
+    log_lines(alloc, journal, &mut reading, &mut world)
 }

@@ -2,7 +2,7 @@ use Rattle.std.proofs.Common.{◌≡◌, ◌≤◌, ◌+◌, length, None}
 use Rattle.ch_model.specs.Journal.{raw_lines}
 use Rattle.ch_lines.specs.declared.grammar.Grammar.TheVariants.{OneNode}
 use Rattle.ch_replay.specs.Replayed.{replay_of, replayed, progress_of, onto}
-use Rattle.ch_replay.proofs.replay.log_journal.Given as goal
+use Rattle.ch_replay.proofs.replay.log_lines.Given as goal
 
 -- the text so far, and that of the lines that are left
 abbrev pub invariant-lines : goal.invariant-lines

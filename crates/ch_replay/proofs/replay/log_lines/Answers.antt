@@ -4,7 +4,7 @@ use Rattle.std.proofs.lemmas.Bool.Decides.{nat_tests}
 use Rattle.ch_model.specs.Journal.{raw_lines, size_of}
 use Rattle.ch_replay.specs.Replayed.{replay_of}
 use Rattle.ch_replay.proofs.Turns.{turn_goes_on}
-use Rattle.ch_replay.proofs.replay.log_journal.Goals as goal
+use Rattle.ch_replay.proofs.replay.log_lines.Goals as goal
 
 newline_is : (ended : Bool) → bool_byte ended ≡ cond ended 1 0
 newline_is true = refl
