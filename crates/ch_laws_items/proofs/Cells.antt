@@ -26,7 +26,7 @@ use Rattle.ch_laws_items.proofs.Next.{used_up, next_fine, nothing_left}
 
 -- ---- what follows at a cell leaves no more unread
 
-abbrev Follows : Cell → Followed → Type 0
+abbrev pub Follows : Cell → Followed → Type 0
 Follows before (Ok done) = KeepsNoMore before.host done.1.host
 Follows before (Err stop) = Unit {0}
 

@@ -1,0 +1,4 @@
+mod Follows
+mod Kept
+mod Opened
+mod Seated

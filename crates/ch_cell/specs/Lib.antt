@@ -1,0 +1,5 @@
+pub mod Stops
+pub mod Seats
+pub mod Items
+pub mod Did
+pub mod New
