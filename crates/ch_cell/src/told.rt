@@ -6,7 +6,7 @@ ghost use Rattle.ch_watch.specs.Same.{same_node as same_node_of};
 ghost use Rattle.ch_cell.specs.Stops.{stop_of as stop_of_error, answer_of as answer_of_error};
 
 use ch_base::{Address, OutOfMemory, Stop};
-use ch_model::{CommandError, EndError, LocalEntry, Step, Verdict};
+use ch_model::{CommandError, EndError, LocalEntries, LocalEntry, LocalList, Step, Verdict};
 use std::alloc::Global;
 
 /// One thing that followed.
@@ -81,4 +81,30 @@ pub(crate) fn joined(
     let mut last = next;
     entries.append(&mut last)?;
     Ok(entries)
+}
+
+/// An equal answer with equal entries.
+pub(crate) fn copied(made: &LocalEntries) -> Result<LocalEntries, OutOfMemory>
+    ensures { IfOk result (λ copy. copy ≡ made.now) }
+{
+    Ok(LocalEntries {
+        verdict: made.verdict,
+        entries: LocalList {
+            items: copies(
+                *made.entries.items.allocator(),
+                made.entries.items.as_slice(),
+            )?,
+        },
+    })
+}
+
+/// Equal entries.
+fn copies(alloc: Global, entries: &[LocalEntry]) -> Result<Vec<LocalEntry>, OutOfMemory>
+    ensures { IfOk result (λ own. own.items ≡ entries.now) }
+{
+    let mut own = Vec::new(alloc);
+    for entry in entries {
+        own.push(entry.copy()?)?;
+    }
+    Ok(own)
 }
