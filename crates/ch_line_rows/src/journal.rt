@@ -1,7 +1,7 @@
 //! Lines that are refused, with their kind and place; the texts of statuses.
 
 use ch_journal::{Grammar, JournalError, Reading, Status};
-use ch_model::{BadKind, Line};
+use ch_model::BadKind;
 use std::alloc::Global;
 use std::process::Abort;
 
@@ -108,13 +108,23 @@ const NO_NUMBER_OR_NAME: [(&[u8], BadKind); 14] = [
     (b"end aa.0", BadKind::Undeclared),
 ];
 
-/// A reading of these lines, and what the next one says.
-fn read_after(alloc: Global, before: &[&[u8]], text: &[u8]) -> Result<Option<Line>, JournalError> {
-    let mut reading = Reading::new(alloc, Grammar::OneNode);
-    for line in before {
-        reading.line(*line)?;
+/// Why the next line is refused, if it is. The reading is lent: to drop one in several places is dear to prove.
+fn refusal(reading: &mut Reading, text: &[u8]) -> Option<JournalError> {
+    reading.line(text).err()
+}
+
+/// Reads these lines. A refusal would be the answer to each line after it.
+fn read_all(reading: &mut Reading, lines: &[&[u8]]) {
+    for line in lines {
+        let _ = refusal(reading, *line);
     }
-    reading.line(text)
+}
+
+/// Why a line is refused that comes after these, if it is.
+fn refusal_after(alloc: Global, before: &[&[u8]], text: &[u8]) -> Option<JournalError> {
+    let mut reading = Reading::new(alloc, Grammar::OneNode);
+    read_all(&mut reading, before);
+    refusal(&mut reading, text)
 }
 
 /// Each line is refused after these lines, at its place.
@@ -127,7 +137,7 @@ fn refuses(
 ) {
     for (text, kind) in rows {
         assert_eq!(rt;
-            read_after(alloc, before, *text).err(),
+            refusal_after(alloc, before, *text),
             Some(JournalError::BadLine {
                 line: place,
                 kind: *kind,
