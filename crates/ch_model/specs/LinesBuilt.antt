@@ -1,4 +1,4 @@
--- The lines that the program reads so far: those of one node.
+-- Parts of the whole grammar: the lines of one node, and those of any number of nodes between which nothing is lost.
 use Rattle.std.specs.Prelude.{ℕ, Bool, true, false, List, [], ◌∷◌, Option, Result, Ok, codes}
 use Rattle.ch_model.specs.declared.refusal.BadKind.{BadKind}
 use Rattle.ch_model.specs.declared.refusal.BadKind.TheVariants.{Form}
@@ -10,6 +10,7 @@ use Rattle.ch_model.specs.FieldsOfNames.{process_of, numbered}
 use Rattle.ch_model.specs.LinesTold.{Told, declared_in}
 use Rattle.ch_model.specs.LinesDeclared.{node_line}
 use Rattle.ch_model.specs.LinesOfProcesses.{proc_line, recv_line, end_line}
+use Rattle.ch_model.specs.LinesOfSockets.{join_line, come_line, feed_line}
 use Rattle.ch_model.specs.Lines.{Built, reads}
 
 -- nothing was declared
@@ -47,5 +48,15 @@ one_node = record {
   words =
       reads (codes "send") send_process_line ∷ reads (codes "recv") recv_line ∷ reads (codes "end") end_line
       ∷ reads (codes "proc") proc_line ∷ reads (codes "node") only_node_line ∷ [];
+  skips = false;
+}
+
+-- the lines of any number of nodes between which nothing is lost, without empty lines and comments
+abbrev pub many_nodes : Built
+many_nodes = record {
+  words =
+      reads (codes "send") send_process_line ∷ reads (codes "recv") recv_line ∷ reads (codes "end") end_line
+      ∷ reads (codes "feed") feed_line ∷ reads (codes "join") join_line ∷ reads (codes "come") come_line
+      ∷ reads (codes "proc") proc_line ∷ reads (codes "node") node_line ∷ [];
   skips = false;
 }

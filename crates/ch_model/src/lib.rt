@@ -20,7 +20,7 @@ pub use act::Act;
 pub use command::CommandError;
 pub use entry::{Entry, Verdict};
 pub use handed::Handed;
-pub use line::{Line, What};
+pub use line::{Declared, Line, What};
 pub use local::{Happened, History, LocalEntries, LocalEntry, LocalEvent, LocalList};
 pub use name::{End, ProcName, RefName, SockName, TargetName};
 pub use note::{Note, Origin};

@@ -6,6 +6,7 @@ ghost use Rattle.ch_model.specs.declared.line.What.TheVariants as lines;
 use crate::name::{End, ProcName, RefName, SockName, TargetName};
 use ch_base::{Address, OutOfMemory, Text};
 use ch_ident::Name;
+use std::marker::Model;
 
 /// A line with its number in the text, from 1.
 #[derive(Debug, Drop)]
@@ -24,6 +25,21 @@ impl Line {
             what: self.what.copy()?,
         })
     }
+}
+
+/// Declaration lines in order. Contracts see a list.
+#[derive(Debug, Drop)]
+pub struct Declared {
+    pub lines: Vec<Line>,
+}
+
+impl Model for Declared {
+    ghost use Rattle.std.specs.Prelude.{List};
+    ghost use Rattle.ch_model.specs.declared.line.Line.{Line};
+
+    ghost Value = { List Line };
+
+    ghost view = { λ declared. declared.lines.items };
 }
 
 /// What a line says. The first four are declarations; every other line is an event.
