@@ -491,6 +491,20 @@ impl Site {
         }
     }
 
+    /// The host text. It takes no memory.
+    pub fn text(&self) -> &Text
+        ensures { result.now ≡ self.now.host.host }
+    {
+        self.host.text()
+    }
+
+    /// The host's port. It takes no memory.
+    pub fn port(&self) -> u16
+        ensures { result ≡ self.now.host.port }
+    {
+        self.host.port()
+    }
+
     /// Whether a timer runs for the link of an endpoint with a peer. It takes no memory.
     pub fn timer_runs(&self, end: u32, peer: &Address) -> bool
         ensures { result ≡ host_timer_runs self.now.host end peer.now }

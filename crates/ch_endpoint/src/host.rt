@@ -191,6 +191,20 @@ impl Host {
         self.state.would_hear(event)
     }
 
+    /// The host text. It takes no memory.
+    pub fn text(&self) -> &Text
+        ensures { result.now ≡ self.now.state.host }
+    {
+        &self.state.host
+    }
+
+    /// The port. It takes no memory.
+    pub fn port(&self) -> u16
+        ensures { result ≡ self.now.state.port }
+    {
+        self.state.port
+    }
+
     /// Whether a timer runs for the link of an endpoint with a peer. It takes no memory.
     pub fn timer_runs(&self, end: u32, peer: &Address) -> bool
         ensures { result ≡ host_timer_runs self.now.state end peer.now }

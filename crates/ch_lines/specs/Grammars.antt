@@ -1,14 +1,15 @@
 -- Which lines each grammar has.
 use Rattle.std.specs.Prelude.{List, ◌∷◌, [], ◌++◌, codes}
 use Rattle.ch_model.specs.Lines.{Built, LineWord, reads, acting, happening, whole}
-use Rattle.ch_model.specs.LinesBuilt.{one_node}
+use Rattle.ch_model.specs.LinesBuilt.{one_node, many_nodes}
 use Rattle.ch_model.specs.LinesOfPeers.{monitor_line, link_line, unwatch_line, exit_line, kill_line, spawn_line, whereis_line}
 use Rattle.ch_lines.specs.declared.grammar.Grammar.{Grammar}
-use Rattle.ch_lines.specs.declared.grammar.Grammar.TheVariants.{OneNode, Whole}
+use Rattle.ch_lines.specs.declared.grammar.Grammar.TheVariants.{OneNode, ManyNodes, Whole}
 
 -- the lines of a grammar
 abbrev pub built_of : Grammar → Built
 built_of OneNode = one_node
+built_of ManyNodes = many_nodes
 built_of Whole = whole
 
 -- ---- the words of the whole grammar from a place on, in its order

@@ -8,6 +8,8 @@ ghost use Rattle.ch_lines.specs.Grammars.{built_of};
 pub enum Grammar {
     /// The lines of one node, without empty lines and comments.
     OneNode,
+    /// The lines of any number of nodes between which nothing is lost, without empty lines and comments.
+    ManyNodes,
     /// Every line. An empty line, and one that begins with `;`, is passed over.
     Whole,
 }
@@ -19,6 +21,7 @@ impl Grammar {
     {
         match self {
             Grammar::OneNode => false,
+            Grammar::ManyNodes => false,
             Grammar::Whole => true,
         }
     }

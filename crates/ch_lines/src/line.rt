@@ -4,7 +4,7 @@
 
 ghost use Rattle.std.specs.Prelude.{◌≡◌, Ok, MatchResult, OnErr};
 ghost use Rattle.std.specs.Option.{option_map};
-ghost use Rattle.ch_model.specs.LinesBuilt.{one_node};
+ghost use Rattle.ch_model.specs.LinesBuilt.{one_node, many_nodes};
 ghost use Rattle.ch_model.specs.Lines.{whole, happening, line_of_word, line_said, says_nothing as says_nothing_of, said_and_told, read_header, read_line};
 ghost use Rattle.ch_lines.specs.Grammars.{built_of, from_acting, from_watching};
 ghost use Rattle.ch_fields.specs.Outcome.{Gives, Fails};
@@ -44,6 +44,37 @@ impl Known {
             self.proc_line(alloc, rest)
         } else if word == b"node".as_slice() {
             self.only_node_line(alloc, rest)
+        } else {
+            Err(Fault::Bad(BadKind::Form))
+        }
+    }
+
+    /// The line of this word, where the lines of any number of nodes are read.
+    #[tactic(auto, unfolding(ch_model::specs::Lines::line_of_word))]
+    fn many_nodes_line(
+        &self,
+        alloc: Global,
+        word: &[u8],
+        rest: Option<&[u8]>,
+    ) -> Result<What, Fault>
+        ensures { Gives (λ x. x) result (line_of_word many_nodes.words self.now word.now (option_map (λ r. r.now) rest.entry)) }
+    {
+        if word == b"send".as_slice() {
+            self.send_process_line(alloc, rest)
+        } else if word == b"recv".as_slice() {
+            self.recv_line(alloc, rest)
+        } else if word == b"end".as_slice() {
+            self.end_line(alloc, rest)
+        } else if word == b"feed".as_slice() {
+            self.feed_line(alloc, rest)
+        } else if word == b"join".as_slice() {
+            self.join_line(alloc, rest)
+        } else if word == b"come".as_slice() {
+            self.come_line(alloc, rest)
+        } else if word == b"proc".as_slice() {
+            self.proc_line(alloc, rest)
+        } else if word == b"node".as_slice() {
+            self.node_line(alloc, rest)
         } else {
             Err(Fault::Bad(BadKind::Form))
         }
@@ -171,6 +202,7 @@ impl Known {
     {
         match grammar {
             Grammar::OneNode => self.one_node_line(alloc, word, rest),
+            Grammar::ManyNodes => self.many_nodes_line(alloc, word, rest),
             Grammar::Whole => self.whole_line(alloc, word, rest),
         }
     }

@@ -6,6 +6,7 @@ ghost use Rattle.ch_model.specs.declared.line.What.TheVariants as lines;
 use crate::name::{End, ProcName, RefName, SockName, TargetName};
 use ch_base::{Address, OutOfMemory, Text};
 use ch_ident::Name;
+use std::alloc::Global;
 use std::marker::Model;
 
 /// A line with its number in the text, from 1.
@@ -40,6 +41,27 @@ impl Model for Declared {
     ghost Value = { List Line };
 
     ghost view = { λ declared. declared.lines.items };
+}
+
+impl Declared {
+    /// Equal lines.
+    pub fn copy(&self) -> Result<Declared, OutOfMemory>
+        ensures { IfOk result (λ declared. declared ≡ self.now) }
+    {
+        Ok(Declared {
+            lines: lines_copied(*self.lines.allocator(), self.lines.as_slice())?,
+        })
+    }
+}
+
+fn lines_copied(alloc: Global, lines: &[Line]) -> Result<Vec<Line>, OutOfMemory>
+    ensures { IfOk result (λ own. own.items ≡ lines.now) }
+{
+    let mut own = Vec::new(alloc);
+    for line in lines {
+        own.push(line.copy()?)?;
+    }
+    Ok(own)
 }
 
 /// What a line says. The first four are declarations; every other line is an event.

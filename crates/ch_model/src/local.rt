@@ -7,6 +7,7 @@ use crate::note::Note;
 use crate::step::{SocketEvent, Step};
 use ch_base::{OutOfMemory, Text};
 use ch_static::Command;
+use std::alloc::Global;
 use std::marker::Model;
 
 /// One local event of a host. A node is named by the number of its endpoint.
@@ -97,6 +98,27 @@ impl Model for LocalList {
     ghost view = { λ list. list.items.items };
 }
 
+impl LocalList {
+    /// Equal entries.
+    pub fn copy(&self) -> Result<LocalList, OutOfMemory>
+        ensures { IfOk result (λ list. list ≡ self.now) }
+    {
+        Ok(LocalList {
+            items: entries_copied(*self.items.allocator(), self.items.as_slice())?,
+        })
+    }
+}
+
+fn entries_copied(alloc: Global, entries: &[LocalEntry]) -> Result<Vec<LocalEntry>, OutOfMemory>
+    ensures { IfOk result (λ own. own.items ≡ entries.now) }
+{
+    let mut own = Vec::new(alloc);
+    for entry in entries {
+        own.push(entry.copy()?)?;
+    }
+    Ok(own)
+}
+
 /// The answer to a local event, and what followed, in order.
 #[derive(Debug, Drop)]
 pub struct LocalEntries {
@@ -104,11 +126,35 @@ pub struct LocalEntries {
     pub entries: LocalList,
 }
 
+impl LocalEntries {
+    /// An equal answer with equal entries.
+    pub fn copy(&self) -> Result<LocalEntries, OutOfMemory>
+        ensures { IfOk result (λ made. made ≡ self.now) }
+    {
+        Ok(LocalEntries {
+            verdict: self.verdict,
+            entries: self.entries.copy()?,
+        })
+    }
+}
+
 /// One local event and what the host made of it.
 #[derive(Debug, Drop)]
 pub struct Happened {
     pub event: LocalEvent,
     pub made: LocalEntries,
+}
+
+impl Happened {
+    /// An equal event with what the host made of it.
+    pub fn copy(&self) -> Result<Happened, OutOfMemory>
+        ensures { IfOk result (λ happened. happened ≡ self.now) }
+    {
+        Ok(Happened {
+            event: self.event.copy()?,
+            made: self.made.copy()?,
+        })
+    }
 }
 
 /// All that has happened at a host, in order. Contracts see a list.
@@ -124,4 +170,25 @@ impl Model for History {
     ghost Value = { List Happened };
 
     ghost view = { λ history. history.events.items };
+}
+
+impl History {
+    /// An equal history.
+    pub fn copy(&self) -> Result<History, OutOfMemory>
+        ensures { IfOk result (λ history. history ≡ self.now) }
+    {
+        Ok(History {
+            events: events_copied(*self.events.allocator(), self.events.as_slice())?,
+        })
+    }
+}
+
+fn events_copied(alloc: Global, events: &[Happened]) -> Result<Vec<Happened>, OutOfMemory>
+    ensures { IfOk result (λ own. own.items ≡ events.now) }
+{
+    let mut own = Vec::new(alloc);
+    for happened in events {
+        own.push(happened.copy()?)?;
+    }
+    Ok(own)
 }
