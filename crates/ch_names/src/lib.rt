@@ -9,6 +9,7 @@ mod commands;
 mod known;
 mod names;
 mod notes;
+mod spot;
 
 pub use commands::Asked;
 pub use names::Names;

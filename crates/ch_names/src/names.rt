@@ -1,16 +1,20 @@
 //! The declared names, and what stands for what.
 
-ghost use Rattle.std.specs.Prelude.{◌≡◌, ◌++◌, ◌∷◌, [], map, filter, find, IfOk, OnOk};
+ghost use Rattle.std.specs.Prelude.{◌≡◌, ◌<◌, ◌++◌, ◌∷◌, [], map, filter, find, IfOk, OnOk};
 ghost use Rattle.std.specs.Option.{option_copied};
-ghost use Rattle.ch_watch.specs.Same.{same_node};
 ghost use Rattle.ch_model.specs.Naming.{is_named, called, address_as, process_as, target_as, reference_as, process_called, target_called, reference_called, maybe_called};
+ghost use Rattle.indexmap.specs.IndexMap.{spare};
+ghost use Rattle.ch_names.specs.Tables.{address_of, is_at, first_entry};
 
 use crate::known::Known;
+use crate::spot::Spot;
 use ch_base::{Address, OutOfMemory, Text};
 use ch_ident::{ProcessId, Ref, SendPortId};
 use ch_model::{ProcName, RefName, TargetName};
 use ch_static::Target;
+use indexmap::IndexMap;
 use std::alloc::Global;
+use std::hash::Hash;
 use std::marker::Model;
 
 /// Names in order of declaration. Contracts see the list of them. Of two that are called alike, or stand
@@ -21,6 +25,10 @@ use std::marker::Model;
 #[derive(Debug, Drop)]
 pub struct Names {
     rows: Vec<Known>,
+    /// For each name, the place of the first that is called so.
+    by_name: IndexMap<Vec<u8>, usize>,
+    /// For each address, the place of the first that stands for it.
+    by_address: IndexMap<Spot, usize>,
 }
 
 impl Model for Names {
@@ -29,7 +37,11 @@ impl Model for Names {
 
     ghost Value = { List Named };
 
+    ghost use Rattle.ch_names.specs.Tables.{AreTables};
+
     ghost view = { λ names. names.rows.items };
+
+    ghost invariant = { λ names. AreTables (λ name. name.items) names.by_name.entries names.by_address.entries names.rows.items };
 }
 
 impl Names {
@@ -39,6 +51,8 @@ impl Names {
     {
         Names {
             rows: Vec::new(alloc),
+            by_name: IndexMap::new(alloc),
+            by_address: IndexMap::new(alloc),
         }
     }
 
@@ -52,12 +66,19 @@ impl Names {
     ) -> Result<(), OutOfMemory>
         ensures { OnOk result (self.new ≡ self.old ++ record { name = name; address = address; unique = unique; is_node = is_node } ∷ []) }
     {
+        let key = name.copy()?.into_vec();
+        let spot = Spot::of(&address)?;
+        self.by_name.reserve(1)?;
+        self.by_address.reserve(1)?;
+        let place = self.rows.len();
         self.rows.push(Known {
             name,
             address,
             unique,
             is_node,
         })?;
+        put_first(&mut self.by_name, key, place);
+        put_first(&mut self.by_address, spot, place);
         Ok(())
     }
 
@@ -69,21 +90,28 @@ impl Names {
     fn named(&self, name: &Text) -> Option<&Known>
         ensures { option_copied result ≡ find (is_named name.now) self.now }
     {
-        self.rows.iter().find(|known| known.is_named(name))
+        match self.by_name.get(name.as_slice()) {
+            None => None,
+            Some(place) => self.rows.get(*place),
+        }
     }
 
-    /// The first that stands for this address.
-    fn at(&self, address: &Address) -> Option<&Known>
-        ensures { option_copied result ≡ find (λ named. same_node named.address address.now) self.now }
+    /// The first that stands for the address of a key.
+    fn at(&self, spot: &Spot) -> Option<&Known>
+        ensures { option_copied result ≡ find (is_at (address_of spot.now)) self.now }
     {
-        self.rows.iter().find(|known| known.is_at(address))
+        match self.by_address.get(spot) {
+            None => None,
+            Some(place) => self.rows.get(*place),
+        }
     }
 
     /// What an address is called; the empty text where no name stands for it.
     pub fn called(&self, address: &Address) -> Result<Text, OutOfMemory>
         ensures { IfOk result (λ t. t ≡ called self.now address.now) }
     {
-        match self.at(address) {
+        let spot = Spot::of(address)?;
+        match self.at(&spot) {
             None => Ok(Text::new(self.alloc())),
             Some(known) => known.name.copy(),
         }
@@ -208,4 +236,18 @@ fn hosts_of_nodes(alloc: Global, rows: &[Known]) -> Result<Vec<Text>, OutOfMemor
         }
     }
     Ok(hosts)
+}
+
+/// Puts a place under a key into a table that has room for one, where none stands under it.
+fn put_first<K: Eq + Hash + Drop>(table: &mut IndexMap<K, usize>, key: K, place: usize)
+    requires { 0 < spare table.old }
+    ensures { table.new.entries ≡ first_entry K.eq table.old.entries key place }
+{
+    if table.contains_key(&key) {
+        return;
+    }
+    match table.insert(key, place) {
+        Ok(_) => {}
+        Err(_) => unreachable!(),
+    }
 }
