@@ -20,7 +20,7 @@ use Rattle.ch_lines.specs.ReadingState.{ReadingState}
 use Rattle.ch_lines.specs.Reading.{Step, numbered_line, read_as, next_line, read_on}
 use Rattle.ch_laws_lines.specs.InOrder.{is_settling}
 use Rattle.ch_laws_lines.proofs.ManyNodes.{many_settles_not}
-use Rattle.ch_world.specs.Stops.{SettlesNot}
+use Rattle.ch_world.specs.Lines.{is_settle}
 use Rattle.ch_replay.specs.Running.{Running}
 use Rattle.ch_replay.specs.Steps.{run_step}
 use Rattle.ch_replay.specs.Replayed.{Progress, went_on, one_line, progress_of, IsTurn}
@@ -69,19 +69,19 @@ goes_on before now run after line read entries old new own fresh few answer then
 -- a line that is read settles nothing
 pub settles_not : (before : ReadingState) (line : List ℕ) (read : Line)
     → before.grammar ≡ ManyNodes → before.refused ≡ None → before.number < 4294967295
-    → (read_on before line).answer ≡ Ok (Some read) → SettlesNot read.what
+    → (read_on before line).answer ≡ Ok (Some read) → is_settle read.what ≡ false
 settles_not before line read own fresh few answer = by_read (read_line many_nodes before.told line) refl (ap (λ (s : Step). s.answer) (sym (reads_next before line own fresh few)) ∙ answer)
   where
-    none_settles : (what : What) → is_settling what ≡ false → SettlesNot what
+    none_settles : (what : What) → is_settling what ≡ false → is_settle what ≡ false
     none_settles Settle h = cc
-    none_settles what h = tt
+    none_settles what h = refl
 
-    by_some : (o : Option What) (told : Told) → read_line many_nodes before.told line ≡ Ok (o, told) → Some (numbered_line (before.number + 1) o) ≡ Some (Some read) → SettlesNot read.what
+    by_some : (o : Option What) (told : Told) → read_line many_nodes before.told line ≡ Ok (o, told) → Some (numbered_line (before.number + 1) o) ≡ Some (Some read) → is_settle read.what ≡ false
     by_some None told e a = absurd cc
     by_some (Some what) told e a =
         let same : record { number = before.number + 1; what = what } ≡ read = cc in
-        subst (λ (l : Line). SettlesNot l.what) same (none_settles what (many_settles_not before.told told line what e))
+        subst (λ (l : Line). is_settle l.what ≡ false) same (none_settles what (many_settles_not before.told told line what e))
 
-    by_read : (r : Result (Option What × Told) BadKind) → read_line many_nodes before.told line ≡ r → (read_as before (before.number + 1) r).answer ≡ Ok (Some read) → SettlesNot read.what
+    by_read : (r : Result (Option What × Told) BadKind) → read_line many_nodes before.told line ≡ r → (read_as before (before.number + 1) r).answer ≡ Ok (Some read) → is_settle read.what ≡ false
     by_read (Err kind) e a = absurd cc
     by_read (Ok r) e a = let found : Some (numbered_line (before.number + 1) r.0) ≡ Some (Some read) = cc in by_some r.0 r.1 e found

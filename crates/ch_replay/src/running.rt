@@ -3,16 +3,15 @@
 //!
 //! The world stands below. The walk over the lines stands above.
 
-ghost use Rattle.std.specs.Prelude.{◌≡◌, ◌++◌, ◌∷◌, [], IfOk, OnOk, Ok, Some, None, MatchResult};
-ghost use Rattle.ch_model.specs.World.{is_declaration as is_declaration_of, world_new};
+ghost use Rattle.std.specs.Prelude.{◌≡◌, false, OnOk, Ok, MatchResult};
 ghost use Rattle.ch_replay.specs.Replayed.{Stops};
 ghost use Rattle.ch_replay.specs.Running.{unbegun};
 ghost use Rattle.ch_replay.specs.Steps.{with_declared, begun, event_on, run_step};
-ghost use Rattle.ch_world.specs.Stops.{SettlesNot};
+ghost use Rattle.ch_world.specs.Lines.{is_settle};
 
 use ch_base::{OutOfMemory, Stop};
-use ch_model::{Declared, Entry, Line, What};
-use ch_world::Realm;
+use ch_model::{Declared, Entry, Line};
+use ch_world::{Realm, is_declaration};
 use std::alloc::Global;
 use std::marker::Model;
 
@@ -29,19 +28,6 @@ impl Model for Running {
     ghost Value = { RunningState };
 
     ghost view = { λ r. record { declared = r.declared; world = r.realm } };
-}
-
-/// Whether a line declares, and is no event.
-fn is_declaration(what: &What) -> bool
-    ensures { result ≡ is_declaration_of what.now }
-{
-    match what {
-        What::Node { .. } => true,
-        What::Away { .. } => true,
-        What::Label { .. } => true,
-        What::Stranger { .. } => true,
-        _ => false,
-    }
 }
 
 impl Running {
@@ -77,7 +63,7 @@ impl Running {
 
     /// What an event line does in the world; nothing where there is none.
     fn event(&mut self, alloc: Global, line: &Line) -> Result<Vec<Entry>, Stop>
-        requires { SettlesNot line.now.what }
+        requires { is_settle line.now.what ≡ false }
         ensures { MatchResult result (λ entries. event_on self.old line.now ≡ Ok (entries.items, self.new)) (λ e. Stops e (event_on self.old line.now)) }
     {
         match &mut self.realm {
@@ -89,7 +75,7 @@ impl Running {
     /// What a line does: a declaration is kept, and an event line is a step of the world. After a stop
     /// nothing is known of the run.
     pub(crate) fn step(&mut self, alloc: Global, line: Line) -> Result<Vec<Entry>, Stop>
-        requires { SettlesNot line.what }
+        requires { is_settle line.what ≡ false }
         ensures { MatchResult result (λ entries. run_step self.old line ≡ Ok (entries.items, self.new)) (λ e. Stops e (run_step self.old line)) }
     {
         if is_declaration(&line.what) {

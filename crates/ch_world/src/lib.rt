@@ -4,4 +4,4 @@
 
 mod realm;
 
-pub use realm::Realm;
+pub use realm::{Realm, is_declaration};

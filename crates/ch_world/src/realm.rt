@@ -1,11 +1,12 @@
 //! The world of a journal.
 
-ghost use Rattle.std.specs.Prelude.{◌≡◌, IfOk, MatchResult, Ok};
-ghost use Rattle.ch_model.specs.World.{world_new, world_step};
-ghost use Rattle.ch_world.specs.Stops.{Stops, SettlesNot};
+ghost use Rattle.std.specs.Prelude.{◌≡◌, false, IfOk, MatchResult, Ok};
+ghost use Rattle.ch_model.specs.World.{is_declaration as is_declaration_of, world_new, world_step};
+ghost use Rattle.ch_world.specs.Lines.{is_settle as is_settle_of};
+ghost use Rattle.ch_world.specs.Stops.{Stops};
 
 use ch_base::{OutOfMemory, Stop};
-use ch_model::{Declared, Entry, Line};
+use ch_model::{Declared, Entry, Line, What};
 use std::alloc::Global;
 use std::marker::Model;
 
@@ -36,9 +37,22 @@ impl Realm {
 
     /// What a line does.
     pub fn step(&mut self, line: &Line) -> Result<Vec<Entry>, Stop>
-        requires { SettlesNot line.now.what }
+        requires { is_settle_of line.now.what ≡ false }
         ensures { MatchResult result (λ entries. world_step self.old line.now ≡ Ok (entries.items, self.new)) (λ e. Stops e (world_step self.old line.now)) }
     {
         Err(Stop::OutOfMemory)
+    }
+}
+
+/// Whether a line declares, and is no event.
+pub fn is_declaration(what: &What) -> bool
+    ensures { result ≡ is_declaration_of what.now }
+{
+    match what {
+        What::Node { .. } => true,
+        What::Away { .. } => true,
+        What::Label { .. } => true,
+        What::Stranger { .. } => true,
+        _ => false,
     }
 }
