@@ -1,20 +1,17 @@
 -- What each line of many nodes says: a declaration only before the first event line, a message no longer than the
 -- line, and nothing by which all is settled.
-use Rattle.std.specs.Prelude.{◌≡◌, ℕ, ◌+◌, ◌-◌, ◌≤◌, Bool, true, false, not, List, [], ◌∷◌, length, take, Option, Some, None, Result, Ok, Err, nat_lt, if◌then◌else◌, codes}
+use Rattle.std.specs.Prelude.{◌≡◌, ℕ, ◌+◌, ◌-◌, ◌≤◌, Bool, true, false, not, List, [], ◌∷◌, length, Option, Some, None, Result, Ok, Err, if◌then◌else◌, codes}
 use Rattle.std.specs.List.{AllByRecursion}
 use Rattle.std.specs.Str.{bytes_eq}
-use Rattle.std.proofs.Common.{refl, sym, ap, ◌∙◌, subst, arith}
+use Rattle.std.proofs.Common.{refl, sym, subst, arith}
 use Rattle.ch_model.specs.declared.refusal.BadKind.{BadKind}
 use Rattle.ch_model.specs.declared.refusal.BadKind.TheVariants.{Form, Late}
 use Rattle.ch_model.specs.declared.refusal.LineFault.TheVariants.{TooLong}
-use Rattle.ch_model.specs.declared.name.TargetName.TheVariants.{Process}
-use Rattle.ch_model.specs.declared.name.SockName.{SockName}
-use Rattle.ch_model.specs.declared.line.Line.{Line}
 use Rattle.ch_model.specs.declared.line.What.{What}
 use Rattle.ch_model.specs.declared.line.What.TheVariants.{Node, Proc, Send, Recv, End, Join, Come, Feed}
 use Rattle.ch_model.specs.Fields.{need, field_of, last_of, node_name_of, digits_of, address_of, end_of, sent_mark_of, bytes_of, number_in, count_in}
 use Rattle.ch_model.specs.FieldsOfNames.{process_of, numbered, socket_of, numbered_socket}
-use Rattle.ch_model.specs.LinesTold.{Told, untold, early_in, declared_in, peer_in, opener_in, new_name, new_address, told_after}
+use Rattle.ch_model.specs.LinesTold.{Told, untold, early_in, declared_in, peer_in, opener_in, new_name, new_address}
 use Rattle.ch_model.specs.LinesDeclared.{place_line, node_line}
 use Rattle.ch_model.specs.LinesOfProcesses.{process_alone, process_and_word, proc_line, recv_line, end_line}
 use Rattle.ch_model.specs.LinesOfSockets.{socket_alone, join_line, come_line, feed_line}
@@ -22,7 +19,7 @@ use Rattle.ch_model.specs.Lines.{line_of_word, line_said, said_and_told, read_li
 use Rattle.ch_model.specs.LinesBuilt.{send_process_line, many_nodes}
 use Rattle.ch_model.specs.Journal.{Scan, stopped, is_too_long, size_of, scan_from, scan_lines, longest_journal, longest_line}
 use Rattle.ch_model.specs.World.{is_declaration}
-use Rattle.ch_laws_one_node.specs.OneNode.{FitsFrame, FitFrames}
+use Rattle.ch_laws_one_node.specs.OneNode.{FitFrames}
 use Rattle.ch_laws_one_node.proofs.Scans.{after_read, scan_is}
 use Rattle.ch_laws_one_node.proofs.Reading.{Gives, then_gives, with_gives, if_gives}
 use Rattle.ch_laws_one_node.proofs.Frames.{left, field_within, SaidWithin, send_within, longer, gives_more, framed, FitsOr, lines_framed}

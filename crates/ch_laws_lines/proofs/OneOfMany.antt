@@ -1,10 +1,7 @@
 -- A journal of one node among those of many: its log is that of the model of one node, and so lawful.
-use Rattle.std.specs.Prelude.{◌≡◌, ℕ, ◌+◌, ◌-◌, Bool, true, false, List, [], ◌∷◌, take, Option, Some, None, Result, Ok, Err, if◌then◌else◌, codes}
-use Rattle.std.specs.Str.{bytes_eq}
-use Rattle.std.proofs.Common.{refl, sym, ap, ◌∙◌}
-use Rattle.ch_base.specs.declared.memory.Stop.{Stop}
+use Rattle.std.specs.Prelude.{◌≡◌, ℕ, ◌+◌, List, take, None, Ok}
+use Rattle.std.proofs.Common.{sym, ◌∙◌}
 use Rattle.ch_model.specs.declared.entry.Entry.{Entry}
-use Rattle.ch_model.specs.declared.line.Line.{Line}
 use Rattle.ch_model.specs.Journal.{journal_of, first_fault, raw_lines, longest_journal}
 use Rattle.ch_model.specs.Lawful.{IsPromised}
 use Rattle.ch_model.specs.LinesBuilt.{many_nodes}

@@ -6,7 +6,6 @@ use Rattle.std.proofs.Common.{refl, ap, sym, ◌∙◌, subst}
 use Rattle.ch_model.specs.declared.refusal.BadKind.{BadKind}
 use Rattle.ch_model.specs.declared.refusal.BadKind.TheVariants.{Form}
 use Rattle.ch_model.specs.declared.refusal.LineFault.TheVariants.{TooLong}
-use Rattle.ch_model.specs.declared.line.Line.{Line}
 use Rattle.ch_model.specs.declared.line.What.{What}
 use Rattle.ch_model.specs.declared.line.What.TheVariants as lines
 use Rattle.ch_model.specs.LinesTold.{Told, untold, told_after, is_declaration as is_declaration_told}
@@ -15,7 +14,7 @@ use Rattle.ch_model.specs.Journal.{Scan, stopped, is_too_long, size_of, scan_fro
 use Rattle.ch_model.specs.World.{is_declaration}
 use Rattle.ch_laws_one_node.proofs.Scans.{after_read, scan_is}
 use Rattle.ch_laws_one_node.proofs.Reading.{Gives, if_gives}
-use Rattle.ch_laws_lines.specs.InOrder.{Declares, Happens, IsInOrder, DeclaresEarly}
+use Rattle.ch_laws_lines.specs.InOrder.{Happens, IsInOrder, DeclaresEarly}
 
 -- what is told of declarations is of the same lines
 same_declaration : (what : What) → is_declaration_told what ≡ is_declaration what
