@@ -17,12 +17,7 @@ const HEAD: [&[u8]; 5] = [
     b"proc b",
 ];
 
-const HEAD_LOG: [&[u8]; 4] = [
-    b"line 4 ok",
-    b"made a.0 - -",
-    b"line 5 ok",
-    b"made b.0 - -",
-];
+const HEAD_LOG: [&[u8]; 4] = [b"line 4 ok", b"made a.0 - -", b"line 5 ok", b"made b.0 - -"];
 
 /// A message from one node to the other.
 const MESSAGE: [&[u8]; 6] = [
@@ -357,7 +352,10 @@ fn refuses_lines_of_two_nodes(rt: HostRuntime) -> Result<(), Fail> {
         let journal = text_of(alloc, HEAD.as_slice(), &[line])?;
         let mut from = source(alloc, journal.as_slice(), 4096)?;
         let mut to = BytesSink::new(Vec::new(alloc), 4096);
-        assert_eq!(rt; replay(alloc, &mut from, &mut to)?, Status::BadLine { line: 6, kind });
+        assert_eq!(rt;
+            replay(alloc, &mut from, &mut to)?,
+            Status::BadLine { line: 6, kind }
+        );
         assert_eq!(rt; to.as_slice(), logged.as_slice());
     }
     Ok(())

@@ -45,7 +45,11 @@ pub(crate) fn replay<S: Source, K: Sink>(
 }
 
 /// A source of these bytes, which gives so many at most at a time.
-pub(crate) fn source(alloc: Global, journal: &[u8], most: usize) -> Result<BytesSource, AllocError> {
+pub(crate) fn source(
+    alloc: Global,
+    journal: &[u8],
+    most: usize,
+) -> Result<BytesSource, AllocError> {
     Ok(BytesSource::new(Vec::from_slice(alloc, journal)?, most))
 }
 
