@@ -1,0 +1,88 @@
+//! How far a journal has run: its declarations, and from the first event line on the world that they
+//! made.
+//!
+//! The world stands below. The walk over the lines stands above.
+
+ghost use Rattle.std.specs.Prelude.{◌≡◌, false, OnOk, Ok, MatchResult};
+ghost use Rattle.ch_replay.specs.Replayed.{Stops};
+ghost use Rattle.ch_replay.specs.Running.{unbegun};
+ghost use Rattle.ch_replay.specs.Steps.{with_declared, begun, event_on, run_step};
+ghost use Rattle.ch_world.specs.Lines.{is_settle};
+
+use ch_base::{OutOfMemory, Stop};
+use ch_model::{Declared, Entry, Line};
+use ch_world::{Realm, is_declaration};
+use std::alloc::Global;
+use std::marker::Model;
+
+/// The declarations so far and, once an event line came, the world that they made.
+#[derive(Drop)]
+pub(crate) struct Running {
+    declared: Declared,
+    realm: Option<Realm>,
+}
+
+impl Model for Running {
+    ghost use Rattle.ch_replay.specs.Running.{Running as RunningState};
+
+    ghost Value = { RunningState };
+
+    ghost view = { λ r. record { declared = r.declared; world = r.realm } };
+}
+
+impl Running {
+    /// A run before its first line. It takes no memory.
+    pub(crate) fn new(alloc: Global) -> Running
+        ensures { result ≡ unbegun }
+    {
+        Running {
+            declared: Declared {
+                lines: Vec::new(alloc),
+            },
+            realm: None,
+        }
+    }
+
+    /// Keeps a declaration.
+    fn declare(&mut self, line: Line) -> Result<(), OutOfMemory>
+        ensures { OnOk result (self.new ≡ with_declared line self.old) }
+    {
+        self.declared.lines.push(line)?;
+        Ok(())
+    }
+
+    /// Makes the world of the declarations, where there is none yet.
+    fn begin(&mut self, alloc: Global) -> Result<(), OutOfMemory>
+        ensures { OnOk result (self.new ≡ begun self.old) }
+    {
+        if self.realm.is_none() {
+            self.realm = Some(Realm::new(alloc, &self.declared)?);
+        }
+        Ok(())
+    }
+
+    /// What an event line does in the world; nothing where there is none.
+    fn event(&mut self, alloc: Global, line: &Line) -> Result<Vec<Entry>, Stop>
+        requires { is_settle line.now.what ≡ false }
+        ensures { MatchResult result (λ entries. event_on self.old line.now ≡ Ok (entries.items, self.new)) (λ e. Stops e (event_on self.old line.now)) }
+    {
+        match &mut self.realm {
+            Some(realm) => realm.step(line),
+            None => Ok(Vec::new(alloc)),
+        }
+    }
+
+    /// What a line does: a declaration is kept, and an event line is a step of the world. After a stop
+    /// nothing is known of the run.
+    pub(crate) fn step(&mut self, alloc: Global, line: Line) -> Result<Vec<Entry>, Stop>
+        requires { is_settle line.what ≡ false }
+        ensures { MatchResult result (λ entries. run_step self.old line ≡ Ok (entries.items, self.new)) (λ e. Stops e (run_step self.old line)) }
+    {
+        if is_declaration(&line.what) {
+            self.declare(line)?;
+            return Ok(Vec::new(alloc));
+        }
+        self.begin(alloc)?;
+        self.event(alloc, &line)
+    }
+}
