@@ -1,0 +1,21 @@
+-- What the world keeps of a socket is what the log tells of it.
+use Rattle.std.specs.Prelude.{◌≡◌, Bool, List, Some, is_some}
+use Rattle.ch_model.specs.declared.name.SockName.{SockName}
+use Rattle.ch_model.specs.declared.name.End.{End}
+use Rattle.ch_model.specs.declared.entry.Entry.{Entry}
+use Rattle.ch_model.specs.declared.line.Line.{Line}
+use Rattle.ch_model.specs.Declarations.{has_host}
+use Rattle.ch_model.specs.Sockets.{stands_at, end_state, is_cut, unread}
+use Rattle.ch_model.specs.WorldState.{WorldEnd, WorldSocket}
+use Rattle.ch_model.specs.Stages.{Stage}
+
+-- the target's end is of a cell exactly where its name has a host
+abbrev pub IsPlaced : List Line → WorldSocket → Type 0
+IsPlaced journal socket = is_some socket.t.cell ≡ has_host journal socket.name.to
+
+-- an end stands, is cut and has unread what the log tells
+pub record IsAsTold (journal : List Line) (log : List Entry) (s : SockName) (e : End) (end : WorldEnd) : Type 0 where
+  pub stage : end_state journal log s e ≡ Some end.stage
+  pub stands : (test : Stage → Bool) → stands_at journal log s e test ≡ test end.stage
+  pub cut : is_cut log s e ≡ end.is_cut
+  pub unread : unread journal log s e ≡ end.unread
