@@ -1,0 +1,12 @@
+pub mod Keys
+pub mod Sockets
+pub mod Items
+pub mod Views
+pub mod Pairs
+pub mod Steps
+pub mod Socks
+pub mod Readings
+pub mod Heard
+pub mod One
+pub mod Read
+pub mod Many

@@ -1,0 +1,6 @@
+pub mod Scene
+pub mod View
+pub mod Sound
+pub mod Reading
+pub mod Frames
+pub mod Answers
