@@ -5,8 +5,8 @@ pub mod Views
 pub mod Pairs
 pub mod Steps
 pub mod Socks
+pub mod Many
 pub mod Readings
 pub mod Heard
 pub mod One
 pub mod Read
-pub mod Many

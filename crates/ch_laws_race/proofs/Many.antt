@@ -33,9 +33,8 @@ use Rattle.ch_laws_race.specs.Sound.{AreApart, HasPlace, HasPlaces, opener_by}
 use Rattle.ch_laws_race.specs.Answers.{AreData, each_said}
 use Rattle.ch_laws_race.proofs.Sockets.{by_test, Alike}
 use Rattle.ch_laws_race.proofs.Pairs.{put_here, put_put, put_same}
-use Rattle.ch_laws_race.proofs.Steps.{writes_there}
+use Rattle.ch_laws_race.proofs.Steps.{arrived_alike, writes_there}
 use Rattle.ch_laws_race.proofs.Socks.{sock_by, wrote, follows_more}
-use Rattle.ch_laws_race.proofs.Read.{arrived_alike}
 
 -- a frame that waits is written at the other end
 abbrev pub write : End → Frame × Weight → WorldSocket → WorldSocket
@@ -108,7 +107,7 @@ all_wrote party e x mine theirs (wait ∷ rest) s are opener there way =
     (opener_with party (world.other e) (item_arrives (frame_spelling wait.0) (said_of wait.1) (end_of (world.other e) s)) s ∙ opener)
     (target_with (world.other e) (frame_spelling wait.0) (said_of wait.1) s ∙ there)
     (subst (λ (v : WorldEnd). Takes theirs v rest) (sym (end_with (world.other e) (item_arrives (frame_spelling wait.0) (said_of wait.1) (end_of (world.other e) s)) s)) (takes_later theirs (end_of (world.other e) s) wait rest way))
-    ∙ ap (says_all x rest) (wrote party e x mine theirs s (items.Frame wait.0) (said_of wait.1) opener there (λ q. framed_first theirs (end_of (world.other e) s) wait rest (way q)) ∙ ap (λ (k : pair.Item). says x k (sock_by party e mine theirs s)) data.0)
+    ∙ ap (says_all x rest) (wrote party e x mine theirs s (items.Frame wait.0) (said_of wait.1) opener there (λ q. framed_first theirs (end_of (world.other e) s) wait rest (way q)) ∙ ap (λ (k : pair.Item). says x k (sock_by party e mine theirs s)) are.0)
 
 pub all_alike : (e : End) (waits : List (Frame × Weight)) (s t : WorldSocket) → Alike s t → Alike s (write_all e waits t)
 all_alike e [] s t a = a

@@ -13,7 +13,7 @@ use Rattle.ch_model.specs.declared.name.End.TheVariants.{O, T}
 use Rattle.ch_model.specs.declared.step.Place.{Place}
 use Rattle.ch_model.specs.declared.step.Step.{Step}
 use Rattle.ch_model.specs.declared.step.Step.TheVariants as steps
-use Rattle.ch_model.specs.Stages.{Stage, Open, is_ended}
+use Rattle.ch_model.specs.Stages.{Stage, Open, Ended, is_ended}
 use Rattle.ch_model.specs.HostState.{Link, Socket, HostState}
 use Rattle.ch_model.specs.HostSteps as host
 use Rattle.ch_model.specs.HostSteps.{Stepped, still, is_socket, link_with, with_link, with_socket}
@@ -22,12 +22,14 @@ use Rattle.ch_model.specs.HostItems.{reads_on}
 use Rattle.ch_model.specs.WorldState.{Cell, WorldEnd, WorldSocket, World}
 use Rattle.ch_model.specs.WorldSockets as world
 use Rattle.ch_model.specs.WorldSockets.{end_of, with_end, item_arrives}
-use Rattle.ch_model.specs.WorldSteps.{first_place, stepped}
+use Rattle.ch_model.specs.WorldSteps.{first_place, stepped, all_told}
+use Rattle.ch_model.specs.CellSteps.{told_steps}
+use Rattle.ch_model.specs.HostWrites.{end_socket, ended_in, forgotten}
 use Rattle.ch_race.specs.Pair as pair
 use Rattle.ch_race.specs.Pair.{Side, other, Sock, Pair, put, point, says}
 use Rattle.ch_race.specs.Moves.{Allowed}
 use Rattle.ch_link.specs.declared.LinkState.{LinkState}
-use Rattle.ch_link.specs.declared.LinkState.TheVariants.{Up}
+use Rattle.ch_link.specs.declared.LinkState.TheVariants.{Idle, Dialing, AwaitOther, Up}
 use Rattle.ch_laws_race.specs.Scene.{Party, Scene, hosts_of, host_of, link_of, after_steps}
 use Rattle.ch_laws_race.specs.View.{kind, Reader, reader_of, reader_at, unread_at, whole_items, opener_end, target_end, opener_of, sock_of, place_of, with_places, view}
 use Rattle.ch_laws_race.specs.Sound.{Acts, HasEnd, HasPlace, TakesItem, first_of, opener_by}
@@ -36,10 +38,10 @@ use Rattle.ch_laws_race.proofs.Items.{stream_items}
 use Rattle.ch_laws_race.proofs.Sockets.{Alike, alike_self, alike_with}
 use Rattle.ch_laws_race.proofs.Views.{own_reader, Kept, kept_all, kept_link, kept_socket}
 use Rattle.ch_laws_race.proofs.Keys.{link_named, socket_kept}
-use Rattle.ch_laws_race.proofs.Steps.{one_read, writes_there}
-use Rattle.ch_laws_race.proofs.Socks.{sock_by, upped, wrote, read_there}
-use Rattle.ch_laws_race.proofs.Readings.{taken, takes_front, left_behind, IsUp, unread, leaving, reads_probe, reads_ack}
-use Rattle.ch_laws_race.proofs.Heard.{acknowledges, settles, acknowledged, settled}
+use Rattle.ch_laws_race.proofs.Steps.{one_read, arrived_alike, writes_there, leaves_there, goes_down_there, up_there}
+use Rattle.ch_laws_race.proofs.Socks.{sock_by, upped, wrote, read_there, ended_at, gone_there, end_of_own}
+use Rattle.ch_laws_race.proofs.Readings.{taken, takes_front, left_behind, IsUp, unread, leaving, reads_probe, reads_ack, reads_closed}
+use Rattle.ch_laws_race.proofs.Heard.{acknowledges, settles, told_failed, fails_up, acknowledged, settled, closed}
 use Rattle.ch_wire.specs.declared.frame.Frame.TheVariants as frames
 use Rattle.ch_wire.specs.Spelling.{frame_spelling}
 use Rattle.ch_laws_race.proofs.One.{by_end, place_is, sock_is, World_of, seen_after, read_told}
@@ -55,17 +57,6 @@ opener_stays party T v s = refl
 target_stays : (e : End) (s : WorldSocket) → is_some (with_end e (one_read (end_of e s)) s).t.cell ≡ is_some s.t.cell
 target_stays O s = refl
 target_stays T s = refl
-
--- a socket where bytes arrive keeps its keys
-pub arrived_alike : (e : End) (s t : WorldSocket) (bytes : List ℕ) (said : Option Place) → Alike s t → Alike s (with_end e (item_arrives bytes said (end_of e t)) t)
-arrived_alike e s t bytes said a = alike_with e s t (item_arrives bytes said (end_of e t)) a (cell_by (is_ended (end_of e t).stage || (end_of e t).is_cut)) (number_by (is_ended (end_of e t).stage || (end_of e t).is_cut)) where
-  cell_by : (b : Bool) → (cond b (end_of e t) (record (end_of e t) { unread = (end_of e t).unread ++ bytes; places = (end_of e t).places ++ said ∷ [] })).cell ≡ (end_of e t).cell
-  cell_by true = refl
-  cell_by false = refl
-
-  number_by : (b : Bool) → (cond b (end_of e t) (record (end_of e t) { unread = (end_of e t).unread ++ bytes; places = (end_of e t).places ++ said ∷ [] })).number ≡ (end_of e t).number
-  number_by true = refl
-  number_by false = refl
 
 -- a frame is read only where one is expected
 pub frame_expected : (e : Expected) (f : Frame) → MayStand e (items.Frame f) → e ≡ expected.Frame
@@ -259,3 +250,89 @@ module _ (scene : Scene) (x : Side) (cell : Cell × ℕ) (e : End) (i : ℕ) (s 
   } where
     ends_up : IsUp e Seen
     ends_up = is_up (frame_expected known.expected frames.ProbeAck (subst (MayStand known.expected) is reads.stream.each.0))
+
+  -- ---- what follows an item, in general
+
+  -- the world where the item is read, and no more is done
+  abbrev pub Then : HostState → World
+  Then after = record (World_of scene x cell e i known.number s acts reads.has after) { last = first_place (end_of e s).places }
+
+  pub read_and_then : (more : List Step) (after : HostState) (state : LinkState) (t : WorldSocket) (r : Socket) → Alike s t → Kept known.number Number Peer Own after state → find (is_socket known.number) after.sockets ≡ Some r
+      → (all_told P (record (cell.0) { host = after }) (told_steps more) (record (Then after) { sockets = slice_set scene.world.sockets i Read })).1 ≡ record (Then after) { sockets = slice_set scene.world.sockets i t }
+      → view (after_steps scene x cell (steps.Read known.number ∷ more) after) ≡ point x (Places state) (put i (sock_by scene.party e (r.expected, r.since) Their t) V)
+  read_and_then more after state t r alike kept found told = seen_after scene x cell e i known.number s acts reads.has (steps.Read known.number ∷ more) after state t r (first_place (end_of e s).places)
+      (ap (λ (w : World). (all_told P (record (cell.0) { host = after }) (told_steps more) w).1) (read_told scene x cell e i known.number s acts reads.has after) ∙ told) alike kept found
+
+  -- ---- the end is ended
+
+  abbrev pub Gone : Socket
+  Gone = record Now { stage = Ended; since = [] }
+
+  -- a host that has ended it, where its record was kept
+  pub ends_it : (now : HostState) → find (is_socket known.number) now.sockets ≡ Some Now → end_socket known.number now ≡ with_socket Gone now
+  ends_it now found = ap (λ (o : Option Socket). ended_in o now) found
+
+  abbrev pub Over : WorldSocket
+  Over = with_end e (world.ended (end_of e Read)) Read
+
+  over_is : sock_by scene.party e (expected.Frame, []) Their Over ≡ ended_at e Seen
+  over_is = gone_there scene.party e (expected.Frame, reads.more) Their Read (target_stays e s ∙ reads.has.target) ∙ ap (ended_at e) read_is ∙ ended_same e Rest Seen where
+    ended_same : (f : End) (w : List pair.Item) (z : Sock) → ended_at f (upped f w z) ≡ ended_at f z
+    ended_same O w z = refl
+    ended_same T w z = refl
+
+  -- its end is ended, by a step that says so
+  pub read_and_over : (more : List Step) (after : HostState) (state : LinkState) → Kept known.number Number Peer Own after state → find (is_socket known.number) after.sockets ≡ Some Gone
+      → (all_told P (record (cell.0) { host = after }) (told_steps more) (record (Then after) { sockets = slice_set scene.world.sockets i Read })).1 ≡ record (Then after) { sockets = slice_set scene.world.sockets i Over }
+      → view (after_steps scene x cell (steps.Read known.number ∷ more) after) ≡ point x (Places state) (put i (ended_at e Seen) V)
+  read_and_over more after state kept found told =
+      read_and_then more after state Over Gone (alike_with e s Read (world.ended (end_of e Read)) read_alike (same_cell e Read) (same_number_of e Read)) kept found told
+      ∙ ap (λ (z : Sock). point x (Places state) (put i z V)) over_is where
+        same_cell : (f : End) (z : WorldSocket) → (world.ended (end_of f z)).cell ≡ (end_of f z).cell
+        same_cell f z = refl
+
+        same_number_of : (f : End) (z : WorldSocket) → (world.ended (end_of f z)).number ≡ (end_of f z).number
+        same_number_of f z = refl
+
+  leaves_it : (after : HostState) → (stepped P (record (cell.0) { host = after }) (steps.Left known.number) (record (Then after) { sockets = slice_set scene.world.sockets i Read })).1 ≡ record (Then after) { sockets = slice_set scene.world.sockets i Over }
+  leaves_it after = leaves_there (Then after) i s Read e P known.number (record (cell.0) { host = after }) acts.apart reads.has.at read_alike reads.has.end
+
+  downs_it : (after : HostState) → (stepped P (record (cell.0) { host = after }) (steps.Down known.number) (record (Then after) { sockets = slice_set scene.world.sockets i Read })).1 ≡ record (Then after) { sockets = slice_set scene.world.sockets i Over }
+  downs_it after = goes_down_there (Then after) i s Read e P known.number (record (cell.0) { host = after }) acts.apart reads.has.at read_alike reads.has.end
+
+  -- the host with a link in a state, and then this end ended
+  pub ended_with : (state : LinkState) → end_socket known.number (with_link (Link_in state) (with_socket Now Own)) ≡ with_socket Gone (with_link (Link_in state) (with_socket Now Own))
+  ended_with state = ends_it (with_link (Link_in state) (with_socket Now Own)) found_now
+
+  kept_ended : (state : LinkState) → Kept known.number Number Peer Own (with_socket Gone (with_link (Link_in state) (with_socket Now Own))) state
+  kept_ended state = kept_socket Gone Number Peer Own (with_link (Link_in state) (with_socket Now Own)) state (kept_with (Link_in state) refl refl)
+
+  -- the link forgets all
+  abbrev Failed : HostState
+  Failed = with_link (forgotten (link_of scene x) Idle) (with_socket Gone (with_link (Link_in Idle) (with_socket Now Own)))
+
+  kept_failed : Kept known.number Number Peer Own Failed Idle
+  kept_failed = kept_link known.number Number Peer (forgotten (link_of scene x) Idle) Own (with_socket Gone (with_link (Link_in Idle) (with_socket Now Own))) Idle (link_named Own Number Peer).0 (link_named Own Number Peer).1 (kept_ended Idle)
+
+  found_gone : (now : HostState) → find (is_socket known.number) (with_socket Gone now).sockets ≡ Some Gone
+  found_gone now = socket_kept Gone now.sockets
+
+  -- that the other endpoint closed is read
+  pub closed_read : (probed : Bool) → item ≡ items.Frame frames.EndClosed → IsUser scene x known → (link_of scene x).state ≡ Up known.number probed → IsSeen scene x cell (reads_front scene x known) (read_at e i ∷ [])
+  closed_read probed is user up = record {
+    steps = steps.Read known.number ∷ steps.Down known.number ∷ told_failed (link_of scene x);
+    host = Failed;
+    does = takes_frame frames.EndClosed is user ∙ ap (host.after_steps (steps.Read known.number ∷ [])) (fails_up (link_of scene x) known.number probed (with_socket Now Own) up)
+        ∙ ap (λ (z : HostState). Ok (steps.Read known.number ∷ steps.Down known.number ∷ told_failed (link_of scene x), with_link (forgotten (link_of scene x) Idle) z)) (ended_with Idle);
+    allowed = (may_read e i V, tt);
+    seen = read_and_over (steps.Down known.number ∷ told_failed (link_of scene x)) Failed Idle kept_failed (found_gone (with_link (Link_in Idle) (with_socket Now Own))) (downs_it Failed)
+        ∙ sym (reads_closed V i Seen x Rest sock_at e reads.has.opener ends_up (first_is ∙ ap (λ (z : Item). kind z ∷ Rest) is)
+        ∙ closed V x i probed (leaving e Rest Seen) (link_up probed up)
+        ∙ ap (λ (z : Sock). point x Idle (put i z V)) (end_of_own e x (leaving e Rest Seen) (opener_left e Rest Seen ∙ reads.has.opener) ∙ ended_left e Rest Seen));
+  } where
+    ends_up : IsUp e Seen
+    ends_up = is_up (frame_expected known.expected frames.EndClosed (subst (MayStand known.expected) is reads.stream.each.0))
+
+    ended_left : (f : End) (w : List pair.Item) (z : Sock) → ended_at f (leaving f w z) ≡ ended_at f z
+    ended_left O w z = refl
+    ended_left T w z = refl

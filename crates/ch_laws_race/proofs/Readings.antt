@@ -15,6 +15,7 @@ use Rattle.ch_link.specs.Table.{step_of}
 use Rattle.ch_link.specs.declared.LinkState.{LinkState}
 use Rattle.ch_link.specs.declared.LinkState.TheVariants.{Up}
 use Rattle.ch_link.specs.declared.LinkIn.TheVariants as inputs
+use Rattle.ch_link.specs.declared.LinkAnswer.TheVariants as answers
 use Rattle.ch_model.specs.declared.name.End.{End}
 use Rattle.ch_model.specs.declared.name.End.TheVariants.{O, T}
 use Rattle.ch_model.specs.HostState.{Socket, HostState}
@@ -22,7 +23,7 @@ use Rattle.ch_model.specs.HostSteps.{Stepped}
 use Rattle.ch_model.specs.Host.{front_of, takes, handles}
 use Rattle.ch_race.specs.Pair as pair
 use Rattle.ch_race.specs.Pair.{Side, Lesser, Greater, other, OEnd, OAsking, OUp, TEnd, TOpen, TUp, Sock, Pair, put, point}
-use Rattle.ch_race.specs.Moves.{Read_o, Read_t, read_o, read_t, hears, obeys, after}
+use Rattle.ch_race.specs.Moves.{Read_o, Read_t, asked, read_o, read_t, hears, obeys, after}
 use Rattle.ch_laws_race.specs.View.{kind, Reader, whole_items}
 use Rattle.ch_laws_race.specs.Sound.{opener_by}
 use Rattle.ch_laws_race.specs.Reading.{read_at}
@@ -103,3 +104,19 @@ module _ (v : Pair) (i : ℕ) (s : Sock) (x : Side) (w : List pair.Item) (at : v
   pub reads_data : (e : End) → IsUp e s → unread e s ≡ pair.Data ∷ w → after (read_at e i) v ≡ put i (leaving e w s) v
   reads_data O up first = ap (λ (z : Sock). read_o step_of z.o z.in_o i z v) at ∙ ap (λ (o : OEnd). read_o step_of o s.in_o i s v) up ∙ ap (λ (l : List pair.Item). read_o step_of OUp l i s v) first
   reads_data T up first = ap (λ (z : Sock). read_t step_of z.t z.in_t i z v) at ∙ ap (λ (t : TEnd). read_t step_of t s.in_t i s v) up ∙ ap (λ (l : List pair.Item). read_t step_of TUp l i s v) first
+
+  pub reads_answer_accepted : s.opener ≡ x → s.o ≡ OAsking → s.in_o ≡ pair.Accepted ∷ w → after (Read_o i) v ≡ hears step_of x i (inputs.Answered answers.Accepted) (put i (record s { in_o = w }) v)
+  reads_answer_accepted opener asks first = ap (λ (z : Sock). read_o step_of z.o z.in_o i z v) at ∙ ap (λ (o : OEnd). read_o step_of o s.in_o i s v) asks
+      ∙ ap (λ (l : List pair.Item). read_o step_of OAsking l i s v) first ∙ ap (λ (y : Side). hears step_of y i (inputs.Answered answers.Accepted) (put i (record s { in_o = w }) v)) opener
+
+  pub reads_answer_crossed : s.opener ≡ x → s.o ≡ OAsking → s.in_o ≡ pair.Crossed ∷ w → after (Read_o i) v ≡ hears step_of x i (inputs.Answered answers.Crossed) (put i (record s { in_o = w }) v)
+  reads_answer_crossed opener asks first = ap (λ (z : Sock). read_o step_of z.o z.in_o i z v) at ∙ ap (λ (o : OEnd). read_o step_of o s.in_o i s v) asks
+      ∙ ap (λ (l : List pair.Item). read_o step_of OAsking l i s v) first ∙ ap (λ (y : Side). hears step_of y i (inputs.Answered answers.Crossed) (put i (record s { in_o = w }) v)) opener
+
+  pub reads_answer_invalid : s.opener ≡ x → s.o ≡ OAsking → s.in_o ≡ pair.Invalid ∷ w → after (Read_o i) v ≡ hears step_of x i (inputs.Answered answers.Invalid) (put i (record s { in_o = w }) v)
+  reads_answer_invalid opener asks first = ap (λ (z : Sock). read_o step_of z.o z.in_o i z v) at ∙ ap (λ (o : OEnd). read_o step_of o s.in_o i s v) asks
+      ∙ ap (λ (l : List pair.Item). read_o step_of OAsking l i s v) first ∙ ap (λ (y : Side). hears step_of y i (inputs.Answered answers.Invalid) (put i (record s { in_o = w }) v)) opener
+
+  pub reads_request : s.opener ≡ other x → s.t ≡ TOpen → s.in_t ≡ pair.Request ∷ w → after (Read_t i) v ≡ asked step_of (v.shut x) x i (put i (record s { in_t = w }) v)
+  reads_request opener asks first = ap (λ (z : Sock). read_t step_of z.t z.in_t i z v) at ∙ ap (λ (t : TEnd). read_t step_of t s.in_t i s v) asks
+      ∙ ap (λ (l : List pair.Item). read_t step_of TOpen l i s v) first ∙ ap (λ (y : Side). asked step_of (v.shut y) y i (put i (record s { in_t = w }) v)) (ap other opener ∙ other_twice x)

@@ -169,3 +169,20 @@ read_there party T before theirs more s places w standing there left =
     ap (λ b. record (sock_with party theirs before s) { t = target_end b s.t.stage expected.Frame; in_t = whole_items expected.Frame (more ++ s.t.unread) }) there
     ∙ ap (λ (z : Stage). record (sock_with party theirs before s) { t = target_end true z expected.Frame; in_t = whole_items expected.Frame (more ++ s.t.unread) }) standing
     ∙ ap (λ (z : List pair.Item). record (sock_with party theirs before s) { t = pair.TUp; in_t = z }) left
+
+-- ---- an end is ended
+
+abbrev pub ended_at : End → Sock → Sock
+ended_at O s = pair.end_o s
+ended_at T s = pair.end_t s
+
+-- an end that is closed, with its host's record emptied
+pub gone_there : (party : Side → Party) (e : End) (mine theirs : Reader) (s : WorldSocket) → is_some s.t.cell ≡ true
+    → sock_by party e (expected.Frame, []) theirs (with_end e (world.ended (end_of e s)) s) ≡ ended_at e (sock_by party e mine theirs s)
+gone_there party O mine theirs s there = refl
+gone_there party T mine theirs s there = ap (λ b. record (sock_with party theirs mine s) { t = target_end b Ended expected.Frame; in_t = [] }) there
+
+-- what a node's own end is
+pub end_of_own : (e : End) (x : Side) (s : Sock) → s.opener ≡ opener_by e x → pair.end_of x s ≡ ended_at e s
+end_of_own O x s opener = ap (λ b. cond b (pair.end_o s) (pair.end_t s)) (ap (same x) opener ∙ same_self x)
+end_of_own T x s opener = ap (λ b. cond b (pair.end_o s) (pair.end_t s)) (ap (same x) opener ∙ never_other x)

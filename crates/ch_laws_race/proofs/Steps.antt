@@ -1,5 +1,5 @@
 -- What steps of a host do to the world's sockets.
-use Rattle.std.specs.Prelude.{◌≡◌, ℕ, Bool, true, false, List, [], ◌∷◌, slice_get, slice_set, Option, Some, None}
+use Rattle.std.specs.Prelude.{◌≡◌, ℕ, Bool, true, false, cond, ◌||◌, List, [], ◌∷◌, ◌++◌, slice_get, slice_set, Option, Some, None}
 use Rattle.std.proofs.Common.{refl, ap, sym, ◌∙◌}
 use Rattle.std.proofs.lemmas.Option.{slice_get_within}
 use Rattle.ch_light.proofs.Lists.{set_here}
@@ -9,16 +9,28 @@ use Rattle.ch_model.specs.declared.name.End.TheVariants.{O, T}
 use Rattle.ch_model.specs.declared.name.SockName.{SockName}
 use Rattle.ch_model.specs.declared.step.Place.{Place}
 use Rattle.ch_model.specs.declared.step.Step.TheVariants as steps
+use Rattle.ch_model.specs.Stages.{is_ended}
 use Rattle.ch_model.specs.WorldState.{Cell, WorldEnd, WorldSocket, World}
 use Rattle.ch_model.specs.WorldSockets.{end_of, other, with_end, with_end_of, is_end_of, find_end, is_socket_named, ended, item_arrives}
 use Rattle.ch_model.specs.declared.entry.Entry.TheVariants as entries
 use Rattle.ch_model.specs.WorldSteps.{on_end, first_place, later_places, item_is_read, reads_item, stepped, end_closes}
 use Rattle.ch_laws_race.specs.Sound.{AreApart}
-use Rattle.ch_laws_race.proofs.Sockets.{Alike, end_alike, set_apart, name_found, end_changed, end_found, set_set}
+use Rattle.ch_laws_race.proofs.Sockets.{Alike, alike_with, end_alike, set_apart, name_found, end_changed, end_found, set_set}
 
 -- the end, as far as its places go
 abbrev pub one_read : WorldEnd → WorldEnd
 one_read end = record end { places = later_places end.places }
+
+-- a socket where bytes arrive keeps its keys
+pub arrived_alike : (e : End) (s t : WorldSocket) (bytes : List ℕ) (said : Option Place) → Alike s t → Alike s (with_end e (item_arrives bytes said (end_of e t)) t)
+arrived_alike e s t bytes said a = alike_with e s t (item_arrives bytes said (end_of e t)) a (cell_by (is_ended (end_of e t).stage || (end_of e t).is_cut)) (number_by (is_ended (end_of e t).stage || (end_of e t).is_cut)) where
+  cell_by : (b : Bool) → (cond b (end_of e t) (record (end_of e t) { unread = (end_of e t).unread ++ bytes; places = (end_of e t).places ++ said ∷ [] })).cell ≡ (end_of e t).cell
+  cell_by true = refl
+  cell_by false = refl
+
+  number_by : (b : Bool) → (cond b (end_of e t) (record (end_of e t) { unread = (end_of e t).unread ++ bytes; places = (end_of e t).places ++ said ∷ [] })).number ≡ (end_of e t).number
+  number_by true = refl
+  number_by false = refl
 
 -- a world whose i-th socket is s; a cell has its end e under a number
 module _ (w : World) (i : ℕ) (first s : WorldSocket) (e : End) (place number : ℕ) (cell : Cell)

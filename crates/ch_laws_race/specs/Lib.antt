@@ -4,3 +4,4 @@ pub mod Sound
 pub mod Reading
 pub mod Frames
 pub mod Answers
+pub mod Requests
