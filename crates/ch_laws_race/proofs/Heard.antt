@@ -1,7 +1,8 @@
 -- What a link makes of an item, at its host and in the pair.
 use Rattle.std.specs.Prelude.{◌≡◌, ℕ, Bool, true, false, List, [], ◌∷◌, map, None, Ok}
 use Rattle.std.proofs.Common.{refl, ap, sym, ◌∙◌}
-use Rattle.ch_wire.specs.Spelling.{frame_spelling}
+use Rattle.ch_wire.specs.Spelling.{answer_spelling, frame_spelling}
+use Rattle.ch_wire.specs.declared.answer.Answer.TheVariants as replies
 use Rattle.ch_wire.specs.declared.frame.Frame.TheVariants as frames
 use Rattle.ch_link.specs.Table.{step_of}
 use Rattle.ch_link.specs.declared.LinkState.{LinkState}
@@ -14,11 +15,14 @@ use Rattle.ch_model.specs.HostWrites.{frame_step, end_socket, forgotten}
 use Rattle.ch_link.specs.declared.LinkIn.TheVariants as inputs
 use Rattle.ch_model.specs.declared.step.Step.TheVariants as steps
 use Rattle.ch_model.specs.HostState.{Link, HostState}
-use Rattle.ch_model.specs.HostSteps.{with_link}
+use Rattle.ch_model.specs.HostSteps.{Stepped, own_address, with_link}
+use Rattle.ch_model.specs.Greater as addresses
+use Rattle.ch_model.specs.HostLinks.{does_act}
+use Rattle.ch_link.specs.declared.LinkIn.{LinkIn}
 use Rattle.ch_model.specs.HostLinks as links
 use Rattle.ch_race.specs.Pair as pair
 use Rattle.ch_race.specs.Pair.{Side, is_greater, Sock, Pair, put, point, says}
-use Rattle.ch_race.specs.Moves.{obeys, hears}
+use Rattle.ch_race.specs.Moves.{obeys, hears, asked}
 use Rattle.ch_laws_race.proofs.Pairs.{put_here, put_put}
 
 -- ---- the host
@@ -73,6 +77,69 @@ fails_up link sock probed now up = ap (λ (k : LinkState). links.hears inputs.En
       ≡ Ok (steps.Down sock ∷ told_failed l, with_link (forgotten l Idle) (end_socket sock (with_link (record l { state = Idle }) now)))
   told l = refl
 
+-- ---- a request
+
+-- what a link does, by the order of the addresses
+abbrev by_order : LinkIn → Link → HostState → Bool → Stepped
+by_order input link now greater =
+    let told = step_of link.state input greater in
+    does_act told.1 link.state input (record link { state = told.0 }) (with_link (record link { state = told.0 }) now)
+
+-- one that dials nothing and isn't up accepts
+pub accepts_idle : (link : Link) (sock : ℕ) (now : HostState) → link.state ≡ Idle → links.hears (inputs.Asked sock) link now
+    ≡ Ok (steps.Up sock ∷ steps.Write sock (answer_spelling replies.Accepted) None ∷ map (frame_step sock) link.waits, with_link (record link { state = Up sock false; waits = [] }) (with_link (record link { state = Up sock false }) now))
+unfolding step_of
+accepts_idle link sock now is = ap (λ (k : LinkState). links.hears (inputs.Asked sock) (record link { state = k }) now) is ∙ told link where
+  told : (l : Link) → links.hears (inputs.Asked sock) (record l { state = Idle }) now
+      ≡ Ok (steps.Up sock ∷ steps.Write sock (answer_spelling replies.Accepted) None ∷ map (frame_step sock) l.waits, with_link (record l { state = Up sock false; waits = [] }) (with_link (record l { state = Up sock false }) now))
+  told l = refl
+
+pub accepts_awaiting : (link : Link) (sock : ℕ) (now : HostState) → link.state ≡ AwaitOther → links.hears (inputs.Asked sock) link now
+    ≡ Ok (steps.Up sock ∷ steps.Write sock (answer_spelling replies.Accepted) None ∷ map (frame_step sock) link.waits, with_link (record link { state = Up sock false; waits = [] }) (with_link (record link { state = Up sock false }) now))
+unfolding step_of
+accepts_awaiting link sock now is = ap (λ (k : LinkState). links.hears (inputs.Asked sock) (record link { state = k }) now) is ∙ told link where
+  told : (l : Link) → links.hears (inputs.Asked sock) (record l { state = AwaitOther }) now
+      ≡ Ok (steps.Up sock ∷ steps.Write sock (answer_spelling replies.Accepted) None ∷ map (frame_step sock) l.waits, with_link (record l { state = Up sock false; waits = [] }) (with_link (record l { state = Up sock false }) now))
+  told l = refl
+
+-- one that dials, of the greater address, crosses
+pub crosses_dialing : (link : Link) (own sock : ℕ) (now : HostState) → link.state ≡ Dialing own → addresses.is_greater (own_address now link.end) link.peer ≡ true → links.hears (inputs.Asked sock) link now
+    ≡ Ok (steps.Write sock (answer_spelling replies.Crossed) None ∷ steps.Left sock ∷ [], end_socket sock (with_link (record link { state = Dialing own }) now))
+unfolding step_of
+crosses_dialing link own sock now is order = ap (λ (k : LinkState). links.hears (inputs.Asked sock) (record link { state = k }) now) is
+    ∙ ap (by_order (inputs.Asked sock) (record link { state = Dialing own }) now) order ∙ told link where
+  told : (l : Link) → by_order (inputs.Asked sock) (record l { state = Dialing own }) now true ≡ Ok (steps.Write sock (answer_spelling replies.Crossed) None ∷ steps.Left sock ∷ [], end_socket sock (with_link (record l { state = Dialing own }) now))
+  told l = refl
+
+-- one that dials, of the lesser address, leaves its dial and accepts
+pub takes_dialing : (link : Link) (own sock : ℕ) (now : HostState) → link.state ≡ Dialing own → addresses.is_greater (own_address now link.end) link.peer ≡ false → links.hears (inputs.Asked sock) link now
+    ≡ Ok (steps.Left own ∷ steps.Up sock ∷ steps.Write sock (answer_spelling replies.Accepted) None ∷ map (frame_step sock) link.waits,
+      with_link (record link { state = Up sock false; waits = [] }) (end_socket own (with_link (record link { state = Up sock false }) now)))
+unfolding step_of
+takes_dialing link own sock now is order = ap (λ (k : LinkState). links.hears (inputs.Asked sock) (record link { state = k }) now) is
+    ∙ ap (by_order (inputs.Asked sock) (record link { state = Dialing own }) now) order ∙ told link where
+  told : (l : Link) → by_order (inputs.Asked sock) (record l { state = Dialing own }) now false
+      ≡ Ok (steps.Left own ∷ steps.Up sock ∷ steps.Write sock (answer_spelling replies.Accepted) None ∷ map (frame_step sock) l.waits,
+        with_link (record l { state = Up sock false; waits = [] }) (end_socket own (with_link (record l { state = Up sock false }) now)))
+  told l = refl
+
+-- one that is up and probed crosses
+pub crosses_probed : (link : Link) (up sock : ℕ) (now : HostState) → link.state ≡ Up up true → links.hears (inputs.Asked sock) link now
+    ≡ Ok (steps.Write sock (answer_spelling replies.Crossed) None ∷ steps.Left sock ∷ [], end_socket sock (with_link (record link { state = Up up true }) now))
+unfolding step_of
+crosses_probed link up sock now is = ap (λ (k : LinkState). links.hears (inputs.Asked sock) (record link { state = k }) now) is ∙ told link where
+  told : (l : Link) → links.hears (inputs.Asked sock) (record l { state = Up up true }) now ≡ Ok (steps.Write sock (answer_spelling replies.Crossed) None ∷ steps.Left sock ∷ [], end_socket sock (with_link (record l { state = Up up true }) now))
+  told l = refl
+
+-- one that is up and not probed crosses and probes
+pub crosses_up : (link : Link) (up sock : ℕ) (now : HostState) → link.state ≡ Up up false → links.hears (inputs.Asked sock) link now
+    ≡ Ok (steps.Write sock (answer_spelling replies.Crossed) None ∷ steps.Left sock ∷ steps.Write up (frame_spelling frames.Probe) None ∷ [], end_socket sock (with_link (record link { state = Up up true }) now))
+unfolding step_of
+crosses_up link up sock now is = ap (λ (k : LinkState). links.hears (inputs.Asked sock) (record link { state = k }) now) is ∙ told link where
+  told : (l : Link) → links.hears (inputs.Asked sock) (record l { state = Up up false }) now
+      ≡ Ok (steps.Write sock (answer_spelling replies.Crossed) None ∷ steps.Left sock ∷ steps.Write up (frame_spelling frames.Probe) None ∷ [], end_socket sock (with_link (record l { state = Up up true }) now))
+  told l = refl
+
 -- ---- the pair
 
 pub acknowledged : (v : Pair) (x : Side) (i : ℕ) (probed : Bool) (s : Sock) → v.link x ≡ Up i probed → hears step_of x i inputs.Probe (put i s v) ≡ point x (Up i probed) (put i (says x pair.Ack s) v)
@@ -108,3 +175,35 @@ unfolding step_of
 closed v x i probed s up = ap (λ (k : LinkState). obeys x k i (step_of k inputs.EndClosed (is_greater x)) (put i s v)) up
     ∙ ap (λ (z : Sock). point x Idle (put i (pair.end_of x z) (put i s v))) (put_here i s v)
     ∙ ap (point x Idle) (put_put i (pair.end_of x s) s v)
+
+-- a target that comes up
+abbrev pub taken_up : Sock → Sock
+taken_up s = record (pair.to_o pair.Accepted s) { t = pair.TUp }
+
+pub accepted_idle : (v : Pair) (x : Side) (i : ℕ) (s : Sock) → v.link x ≡ Idle → hears step_of x i (inputs.Asked i) (put i s v) ≡ point x (Up i false) (put i (taken_up s) v)
+unfolding step_of
+accepted_idle v x i s is = ap (λ (k : LinkState). obeys x k i (step_of k (inputs.Asked i) (is_greater x)) (put i s v)) is
+    ∙ ap (λ (z : Sock). point x (Up i false) (put i (taken_up z) (put i s v))) (put_here i s v) ∙ ap (point x (Up i false)) (put_put i (taken_up s) s v)
+
+pub accepted_awaiting : (v : Pair) (x : Side) (i : ℕ) (s : Sock) → v.link x ≡ AwaitOther → hears step_of x i (inputs.Asked i) (put i s v) ≡ point x (Up i false) (put i (taken_up s) v)
+unfolding step_of
+accepted_awaiting v x i s is = ap (λ (k : LinkState). obeys x k i (step_of k (inputs.Asked i) (is_greater x)) (put i s v)) is
+    ∙ ap (λ (z : Sock). point x (Up i false) (put i (taken_up z) (put i s v))) (put_here i s v) ∙ ap (point x (Up i false)) (put_put i (taken_up s) s v)
+
+-- a request that is declined
+abbrev pub turned_down : pair.Item → Sock → Sock
+turned_down item s = pair.end_t (pair.to_o item s)
+
+pub crossed_dialing : (v : Pair) (x : Side) (i own : ℕ) (s : Sock) → v.link x ≡ Dialing own → is_greater x ≡ true → hears step_of x i (inputs.Asked i) (put i s v) ≡ point x (Dialing own) (put i (turned_down pair.Crossed s) v)
+unfolding step_of
+crossed_dialing v x i own s is order = ap (λ (k : LinkState). obeys x k i (step_of k (inputs.Asked i) (is_greater x)) (put i s v)) is
+    ∙ ap (λ b. obeys x (Dialing own) i (step_of (Dialing own) (inputs.Asked i) b) (put i s v)) order
+    ∙ ap (λ (z : Sock). point x (Dialing own) (put i (turned_down pair.Crossed z) (put i s v))) (put_here i s v) ∙ ap (point x (Dialing own)) (put_put i (turned_down pair.Crossed s) s v)
+
+pub crossed_probed : (v : Pair) (x : Side) (i up : ℕ) (s : Sock) → v.link x ≡ Up up true → hears step_of x i (inputs.Asked i) (put i s v) ≡ point x (Up up true) (put i (turned_down pair.Crossed s) v)
+unfolding step_of
+crossed_probed v x i up s is = ap (λ (k : LinkState). obeys x k i (step_of k (inputs.Asked i) (is_greater x)) (put i s v)) is
+    ∙ ap (λ (z : Sock). point x (Up up true) (put i (turned_down pair.Crossed z) (put i s v))) (put_here i s v) ∙ ap (point x (Up up true)) (put_put i (turned_down pair.Crossed s) s v)
+
+pub refused_shut : (v : Pair) (x : Side) (i : ℕ) (s : Sock) → asked step_of true x i (put i s v) ≡ put i (turned_down pair.Invalid s) v
+refused_shut v x i s = ap (λ (z : Sock). put i (turned_down pair.Invalid z) (put i s v)) (put_here i s v) ∙ put_put i (turned_down pair.Invalid s) s v

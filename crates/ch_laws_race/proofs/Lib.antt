@@ -10,3 +10,5 @@ pub mod Readings
 pub mod Heard
 pub mod One
 pub mod Read
+pub mod AnswersRead
+pub mod RequestsRead

@@ -38,6 +38,10 @@ point_point x k l v = ap (λ (f : Side → LinkState). record v { link = f }) (f
     by true = refl
     by false = refl
 
+pub point_own : (x : Side) (k : LinkState) (v : Pair) → (point x k v).link x ≡ k
+point_own Lesser k v = refl
+point_own Greater k v = refl
+
 -- a link that stays
 pub point_same : (x : Side) (k : LinkState) (v : Pair) → v.link x ≡ k → point x k v ≡ v
 point_same x k v is = ap (λ (f : Side → LinkState). record v { link = f }) (fun_ext at) where

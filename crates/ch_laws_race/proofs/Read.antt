@@ -114,7 +114,7 @@ module _ (scene : Scene) (x : Side) (cell : Cell × ℕ) (e : End) (i : ℕ) (s 
   abbrev pub Read : WorldSocket
   Read = with_end e (one_read (end_of e s)) s
 
-  mine_is : Mine ≡ (known.expected, known.since)
+  pub mine_is : Mine ≡ (known.expected, known.since)
   mine_is = own_reader H P known.number (first_of e) (end_of e s) reads.has.end ∙ ap (reader_of (first_of e)) reads.kept
 
   pub first_is : unread e Seen ≡ kind item ∷ Rest
@@ -208,6 +208,9 @@ module _ (scene : Scene) (x : Side) (cell : Cell × ℕ) (e : End) (i : ℕ) (s 
   pub sock_at : V.sock i ≡ Seen
   sock_at = sock_is scene x cell e i known.number s acts reads.has
 
+  pub number_here : place_of P scene.world.sockets known.number ≡ i
+  number_here = place_is scene x cell e i known.number s acts reads.has
+
   -- a link that is up on this socket
   pub up_here : (probed : Bool) → Places (Up known.number probed) ≡ Up i probed
   up_here probed = ap (λ (z : ℕ). Up z probed) (place_is scene x cell e i known.number s acts reads.has)
@@ -217,7 +220,7 @@ module _ (scene : Scene) (x : Side) (cell : Cell × ℕ) (e : End) (i : ℕ) (s 
 
   -- ---- frames of a link that is up
 
-  abbrev Link_in : LinkState → Link
+  abbrev pub Link_in : LinkState → Link
   Link_in state = record (link_of scene x) { state = state }
 
   -- a probe is read, and acknowledged
@@ -294,27 +297,27 @@ module _ (scene : Scene) (x : Side) (cell : Cell × ℕ) (e : End) (i : ℕ) (s 
         same_number_of : (f : End) (z : WorldSocket) → (world.ended (end_of f z)).number ≡ (end_of f z).number
         same_number_of f z = refl
 
-  leaves_it : (after : HostState) → (stepped P (record (cell.0) { host = after }) (steps.Left known.number) (record (Then after) { sockets = slice_set scene.world.sockets i Read })).1 ≡ record (Then after) { sockets = slice_set scene.world.sockets i Over }
+  pub leaves_it : (after : HostState) → (stepped P (record (cell.0) { host = after }) (steps.Left known.number) (record (Then after) { sockets = slice_set scene.world.sockets i Read })).1 ≡ record (Then after) { sockets = slice_set scene.world.sockets i Over }
   leaves_it after = leaves_there (Then after) i s Read e P known.number (record (cell.0) { host = after }) acts.apart reads.has.at read_alike reads.has.end
 
-  downs_it : (after : HostState) → (stepped P (record (cell.0) { host = after }) (steps.Down known.number) (record (Then after) { sockets = slice_set scene.world.sockets i Read })).1 ≡ record (Then after) { sockets = slice_set scene.world.sockets i Over }
+  pub downs_it : (after : HostState) → (stepped P (record (cell.0) { host = after }) (steps.Down known.number) (record (Then after) { sockets = slice_set scene.world.sockets i Read })).1 ≡ record (Then after) { sockets = slice_set scene.world.sockets i Over }
   downs_it after = goes_down_there (Then after) i s Read e P known.number (record (cell.0) { host = after }) acts.apart reads.has.at read_alike reads.has.end
 
   -- the host with a link in a state, and then this end ended
   pub ended_with : (state : LinkState) → end_socket known.number (with_link (Link_in state) (with_socket Now Own)) ≡ with_socket Gone (with_link (Link_in state) (with_socket Now Own))
   ended_with state = ends_it (with_link (Link_in state) (with_socket Now Own)) found_now
 
-  kept_ended : (state : LinkState) → Kept known.number Number Peer Own (with_socket Gone (with_link (Link_in state) (with_socket Now Own))) state
+  pub kept_ended : (state : LinkState) → Kept known.number Number Peer Own (with_socket Gone (with_link (Link_in state) (with_socket Now Own))) state
   kept_ended state = kept_socket Gone Number Peer Own (with_link (Link_in state) (with_socket Now Own)) state (kept_with (Link_in state) refl refl)
 
   -- the link forgets all
-  abbrev Failed : HostState
+  abbrev pub Failed : HostState
   Failed = with_link (forgotten (link_of scene x) Idle) (with_socket Gone (with_link (Link_in Idle) (with_socket Now Own)))
 
-  kept_failed : Kept known.number Number Peer Own Failed Idle
+  pub kept_failed : Kept known.number Number Peer Own Failed Idle
   kept_failed = kept_link known.number Number Peer (forgotten (link_of scene x) Idle) Own (with_socket Gone (with_link (Link_in Idle) (with_socket Now Own))) Idle (link_named Own Number Peer).0 (link_named Own Number Peer).1 (kept_ended Idle)
 
-  found_gone : (now : HostState) → find (is_socket known.number) (with_socket Gone now).sockets ≡ Some Gone
+  pub found_gone : (now : HostState) → find (is_socket known.number) (with_socket Gone now).sockets ≡ Some Gone
   found_gone now = socket_kept Gone now.sockets
 
   -- that the other endpoint closed is read

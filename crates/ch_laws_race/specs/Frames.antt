@@ -22,6 +22,13 @@ pub record ReadsProbe (scene : Scene) (x : Side) (cell : Cell × ℕ) (e : End) 
   pub up : (link_of scene x).state ≡ Up known.number probed
   pub way : TakesItem (hosts_of scene.world) (first_of (world.other e)) (end_of (world.other e) socket) (items.Frame frames.ProbeAck)
 
+-- That the other's endpoint closed is read there.
+pub record ReadsClosed (scene : Scene) (x : Side) (cell : Cell × ℕ) (e : End) (i : ℕ) (socket : WorldSocket) (known : Socket) (probed : Bool) : Type 0 where
+  pub acts : Acts scene x cell
+  pub reads : Reads scene x e i socket known (items.Frame frames.EndClosed)
+  pub user : IsUser scene x known
+  pub up : (link_of scene x).state ≡ Up known.number probed
+
 -- An acknowledgement is read there.
 pub record ReadsAck (scene : Scene) (x : Side) (cell : Cell × ℕ) (e : End) (i : ℕ) (socket : WorldSocket) (known : Socket) (probed : Bool) : Type 0 where
   pub acts : Acts scene x cell

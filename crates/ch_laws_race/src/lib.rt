@@ -11,7 +11,11 @@ ghost use Rattle.ch_model.specs.WorldState.{Cell, WorldSocket};
 ghost use Rattle.ch_race.specs.Pair.{Side};
 ghost use Rattle.ch_laws_race.specs.Scene.{Scene};
 ghost use Rattle.ch_laws_race.specs.Reading.{IsSeen, read_at, reads_front};
-ghost use Rattle.ch_laws_race.specs.Frames.{ReadsProbe, ReadsAck};
+ghost use Rattle.ch_laws_race.specs.Frames.{ReadsProbe, ReadsAck, ReadsClosed};
+ghost use Rattle.ch_laws_race.specs.Answers.{ReadsAnswer, ReadsAccepted, reads_and_says};
+ghost use Rattle.ch_laws_race.specs.Scene.{link_of};
+ghost use Rattle.ch_race.specs.Moves.{Read_o};
+ghost use Rattle.ch_wire.specs.declared.answer.Answer.TheVariants.{Crossed, Invalid};
 
 /// A probe that is read on the socket that the link is up on is acknowledged there, at either end.
 pub fn probe_is_read()
@@ -23,4 +27,28 @@ pub fn probe_is_read()
 pub fn acknowledgement_is_read()
     ensures { (scene : Scene) (x : Side) (cell : Cell × ℕ) (e : End) (i : ℕ) (socket : WorldSocket) (known : Socket) (probed : Bool) → ReadsAck scene x cell e i socket known probed
         → IsSeen scene x cell (reads_front scene x known) (read_at e i ∷ []) }
+{}
+
+/// That the other's endpoint closed, read on the socket that the link is up on, ends this end, and the link fails.
+pub fn closing_is_read()
+    ensures { (scene : Scene) (x : Side) (cell : Cell × ℕ) (e : End) (i : ℕ) (socket : WorldSocket) (known : Socket) (probed : Bool) → ReadsClosed scene x cell e i socket known probed
+        → IsSeen scene x cell (reads_front scene x known) (read_at e i ∷ []) }
+{}
+
+/// An acceptance that is read on the socket that the link dials brings the link up, and what waits is said there.
+pub fn acceptance_is_read()
+    ensures { (scene : Scene) (x : Side) (cell : Cell × ℕ) (i : ℕ) (socket : WorldSocket) (known : Socket) → ReadsAccepted scene x cell i socket known
+        → IsSeen scene x cell (reads_front scene x known) (reads_and_says x i (link_of scene x).waits) }
+{}
+
+/// "Crossed" that is read there ends this end, and the link awaits the other's request.
+pub fn crossing_is_read()
+    ensures { (scene : Scene) (x : Side) (cell : Cell × ℕ) (i : ℕ) (socket : WorldSocket) (known : Socket) → ReadsAnswer scene x cell i socket known Crossed
+        → IsSeen scene x cell (reads_front scene x known) (Read_o i ∷ []) }
+{}
+
+/// "Invalid" that is read there ends this end, and the link fails.
+pub fn refusal_is_read()
+    ensures { (scene : Scene) (x : Side) (cell : Cell × ℕ) (i : ℕ) (socket : WorldSocket) (known : Socket) → ReadsAnswer scene x cell i socket known Invalid
+        → IsSeen scene x cell (reads_front scene x known) (Read_o i ∷ []) }
 {}
