@@ -1,5 +1,5 @@
 -- What a link makes of an item, at its host and in the pair.
-use Rattle.std.specs.Prelude.{◌≡◌, ℕ, Bool, true, false, List, [], ◌∷◌, map, None, Ok}
+use Rattle.std.specs.Prelude.{◌≡◌, ℕ, nat_eq, Bool, true, false, List, [], ◌∷◌, map, None, Ok}
 use Rattle.std.proofs.Common.{refl, ap, sym, ◌∙◌}
 use Rattle.ch_wire.specs.Spelling.{answer_spelling, frame_spelling}
 use Rattle.ch_wire.specs.declared.answer.Answer.TheVariants as replies
@@ -23,7 +23,7 @@ use Rattle.ch_model.specs.HostLinks as links
 use Rattle.ch_race.specs.Pair as pair
 use Rattle.ch_race.specs.Pair.{Side, is_greater, Sock, Pair, put, point, says}
 use Rattle.ch_race.specs.Moves.{obeys, hears, asked}
-use Rattle.ch_laws_race.proofs.Pairs.{put_here, put_put}
+use Rattle.ch_laws_race.proofs.Pairs.{put_here, put_there, put_put, put_over}
 
 -- ---- the host
 
@@ -199,6 +199,26 @@ unfolding step_of
 crossed_dialing v x i own s is order = ap (λ (k : LinkState). obeys x k i (step_of k (inputs.Asked i) (is_greater x)) (put i s v)) is
     ∙ ap (λ b. obeys x (Dialing own) i (step_of (Dialing own) (inputs.Asked i) b) (put i s v)) order
     ∙ ap (λ (z : Sock). point x (Dialing own) (put i (turned_down pair.Crossed z) (put i s v))) (put_here i s v) ∙ ap (point x (Dialing own)) (put_put i (turned_down pair.Crossed s) s v)
+
+pub left_and_accepted : (v : Pair) (x : Side) (i own : ℕ) (s : Sock) → v.link x ≡ Dialing own → is_greater x ≡ false → nat_eq own i ≡ false
+    → hears step_of x i (inputs.Asked i) (put i s v) ≡ point x (Up i false) (put i (taken_up s) (put own (pair.end_of x (v.sock own)) v))
+unfolding step_of
+left_and_accepted v x i own s is order off = ap (λ (k : LinkState). obeys x k i (step_of k (inputs.Asked i) (is_greater x)) (put i s v)) is
+    ∙ ap (λ b. obeys x (Dialing own) i (step_of (Dialing own) (inputs.Asked i) b) (put i s v)) order
+    ∙ ap (λ (z : Sock). point x (Up i false) (put i (taken_up z) (put own (pair.end_of x ((put i s v).sock own)) (put i s v)))) (put_here i s v)
+    ∙ ap (λ (z : Sock). point x (Up i false) (put i (taken_up s) (put own (pair.end_of x z) (put i s v)))) (put_there i own s v off)
+    ∙ ap (point x (Up i false)) (put_over i own (taken_up s) (pair.end_of x (v.sock own)) s v)
+
+-- one that is up crosses, and probes there
+pub crossed_and_probed : (v : Pair) (x : Side) (i up : ℕ) (s : Sock) → v.link x ≡ Up up false → nat_eq up i ≡ false
+    → hears step_of x i (inputs.Asked i) (put i s v) ≡ point x (Up up true) (put up (says x pair.Probe (v.sock up)) (put i (turned_down pair.Crossed s) v))
+unfolding step_of
+crossed_and_probed v x i up s is off = ap (λ (k : LinkState). obeys x k i (step_of k (inputs.Asked i) (is_greater x)) (put i s v)) is
+    ∙ ap (λ (z : Sock). crossing (put i (turned_down pair.Crossed z) (put i s v))) (put_here i s v)
+    ∙ ap crossing (put_put i (turned_down pair.Crossed s) s v)
+    ∙ ap (λ (z : Sock). point x (Up up true) (put up (says x pair.Probe z) (put i (turned_down pair.Crossed s) v))) (put_there i up (turned_down pair.Crossed s) v off) where
+      crossing : Pair → Pair
+      crossing q = point x (Up up true) (put up (says x pair.Probe (q.sock up)) q)
 
 pub crossed_probed : (v : Pair) (x : Side) (i up : ℕ) (s : Sock) → v.link x ≡ Up up true → hears step_of x i (inputs.Asked i) (put i s v) ≡ point x (Up up true) (put i (turned_down pair.Crossed s) v)
 unfolding step_of

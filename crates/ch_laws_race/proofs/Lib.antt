@@ -12,3 +12,4 @@ pub mod One
 pub mod Read
 pub mod AnswersRead
 pub mod RequestsRead
+pub mod Two

@@ -27,7 +27,7 @@ use Rattle.ch_laws_race.proofs.Views.{at_place, host_here, hosts_set, Kept, own_
 use Rattle.ch_laws_race.proofs.Steps.{one_read, reads_there}
 use Rattle.ch_laws_race.proofs.Socks.{sock_by}
 
-same_end : (e : End) (s t : WorldSocket) → Alike s t → (hosts : ℕ → HostState) (first : Expected) → reader_at hosts first (end_of e t) ≡ reader_at hosts first (end_of e s)
+pub same_end : (e : End) (s t : WorldSocket) → Alike s t → (hosts : ℕ → HostState) (first : Expected) → reader_at hosts first (end_of e t) ≡ reader_at hosts first (end_of e s)
 same_end O s t a hosts first = ap (λ (z : Option ℕ). reader_at hosts first (record (t.o) { cell = z })) a.o_cell ∙ ap (λ (z : Option ℕ). reader_at hosts first (record (s.o) { number = z })) a.o_number
 same_end T s t a hosts first = ap (λ (z : Option ℕ). reader_at hosts first (record (t.t) { cell = z })) a.t_cell ∙ ap (λ (z : Option ℕ). reader_at hosts first (record (s.t) { number = z })) a.t_number
 

@@ -23,12 +23,6 @@ put_put i s t v = ap (λ (f : ℕ → Sock). record v { sock = f }) (fun_ext at)
     by true = refl
     by false = refl
 
--- a socket that stays
-pub put_same : (i : ℕ) (v : Pair) → put i (v.sock i) v ≡ v
-put_same i v = ap (λ (f : ℕ → Sock). record v { sock = f }) (fun_ext at) where
-  at : (j : ℕ) → cond (nat_eq j i) (v.sock i) (v.sock j) ≡ v.sock j
-  at j = by_test (nat_eq j i) (λ h. ap (λ b. cond b (v.sock i) (v.sock j)) h ∙ ap v.sock (same_place i j h)) (λ h. ap (λ b. cond b (v.sock i) (v.sock j)) h)
-
 -- a link that changes twice
 pub point_point : (x : Side) (k l : LinkState) (v : Pair) → point x k (point x l v) ≡ point x k v
 point_point x k l v = ap (λ (f : Side → LinkState). record v { link = f }) (fun_ext at) where
@@ -37,6 +31,25 @@ point_point x k l v = ap (λ (f : Side → LinkState). record v { link = f }) (f
     by : (b : Bool) → cond b k (cond b l (v.link z)) ≡ cond b k (v.link z)
     by true = refl
     by false = refl
+
+-- a socket that changes again after another
+pub put_over : (i j : ℕ) (s t u : Sock) (v : Pair) → put i s (put j t (put i u v)) ≡ put i s (put j t v)
+put_over i j s t u v = ap (λ (f : ℕ → Sock). record v { sock = f }) (fun_ext at) where
+  at : (k : ℕ) → cond (nat_eq k i) s (cond (nat_eq k j) t (cond (nat_eq k i) u (v.sock k))) ≡ cond (nat_eq k i) s (cond (nat_eq k j) t (v.sock k))
+  at k = by (nat_eq k i) (nat_eq k j) where
+    by : (a b : Bool) → cond a s (cond b t (cond a u (v.sock k))) ≡ cond a s (cond b t (v.sock k))
+    by true b = refl
+    by false b = refl
+
+-- the last of three changes of a link, with those of two sockets
+pub piled : (x : Side) (a b c : LinkState) (i j : ℕ) (s t u : Sock) (v : Pair) → point x a (put i s (point x b (put j t (point x c (put i u v))))) ≡ point x a (put i s (put j t v))
+piled x a b c i j s t u v = point_point x a b (point x c (put i s (put j t (put i u v)))) ∙ point_point x a c (put i s (put j t (put i u v))) ∙ ap (point x a) (put_over i j s t u v)
+
+-- a socket that stays
+pub put_same : (i : ℕ) (v : Pair) → put i (v.sock i) v ≡ v
+put_same i v = ap (λ (f : ℕ → Sock). record v { sock = f }) (fun_ext at) where
+  at : (j : ℕ) → cond (nat_eq j i) (v.sock i) (v.sock j) ≡ v.sock j
+  at j = by_test (nat_eq j i) (λ h. ap (λ b. cond b (v.sock i) (v.sock j)) h ∙ ap v.sock (same_place i j h)) (λ h. ap (λ b. cond b (v.sock i) (v.sock j)) h)
 
 pub point_own : (x : Side) (k : LinkState) (v : Pair) → (point x k v).link x ≡ k
 point_own Lesser k v = refl

@@ -1,7 +1,7 @@
 -- A request, read by its target, as moves.
-use Rattle.std.specs.Prelude.{◌≡◌, ℕ, Bool, true, false, not, cond, ◌||◌, List, [], ◌∷◌, ◌++◌, map, find, is_some, slice_set, Option, Some, None, Ok, if◌then◌else◌}
+use Rattle.std.specs.Prelude.{◌≡◌, ◌⊎◌, ℕ, Bool, true, false, not, cond, ◌||◌, List, [], ◌∷◌, ◌++◌, map, find, is_some, slice_set, Option, Some, None, Ok, if◌then◌else◌}
 use Rattle.std.specs.List.{list_any}
-use Rattle.std.proofs.Common.{refl, ap, sym, ◌∙◌, subst, append_assoc}
+use Rattle.std.proofs.Common.{refl, ap, sym, ◌∙◌, append_assoc, inl, inr}
 use Rattle.std.proofs.lemmas.List.{append-nil}
 use Rattle.std.proofs.lemmas.Grind.{flat_map-append}
 use Rattle.ch_base.specs.declared.address.Address.{Address}
@@ -27,8 +27,9 @@ use Rattle.ch_model.specs.Stages.{Stage, Open, Ended, is_ended}
 use Rattle.ch_model.specs.CellSteps.{told_steps}
 use Rattle.ch_model.specs.HostState.{Link, Socket, HostState}
 use Rattle.ch_model.specs.HostSteps as host
-use Rattle.ch_model.specs.HostSteps.{Stepped, is_socket, is_open_endpoint, with_link, with_socket}
+use Rattle.ch_model.specs.HostSteps.{Stepped, own_address, is_socket, is_open_endpoint, with_link, with_socket}
 use Rattle.ch_model.specs.HostWrites.{frame_step, end_socket, ended_in, answers_and_leaves}
+use Rattle.ch_model.specs.Greater as addresses
 use Rattle.ch_model.specs.HostLinks as links
 use Rattle.ch_model.specs.HostItems.{is_mismatch, refusal_of, asks_link}
 use Rattle.ch_model.specs.WorldState.{Cell, WorldEnd, WorldSocket, World}
@@ -36,7 +37,7 @@ use Rattle.ch_model.specs.WorldSockets as world
 use Rattle.ch_model.specs.WorldSockets.{end_of, with_end, item_arrives}
 use Rattle.ch_model.specs.WorldSteps.{stepped, all_told}
 use Rattle.ch_race.specs.Pair as pair
-use Rattle.ch_race.specs.Pair.{Side, Lesser, Greater, other, TEnd, TOpen, Sock, Pair, put, point, says}
+use Rattle.ch_race.specs.Pair.{Side, other, is_greater, TEnd, TOpen, Sock, Pair, put, point, says}
 use Rattle.ch_race.specs.Moves.{Read_t, run, after, asked, hears}
 use Rattle.ch_laws_race.specs.Scene.{Scene, hosts_of, host_of, link_of, after_steps}
 use Rattle.ch_laws_race.specs.View.{kind, Reader, reader_at, target_end, place_of, with_places, is_shut, sock_of, view}
@@ -73,7 +74,7 @@ shut_then true h = absurd (clash h) where
   clash h = cc
 
 -- behind an answer frames may be written
-behind_answer : (reader : Reader) (end : WorldEnd) (answer : Answer) (waits : List (Frame × Weight)) → AreFrames waits → ((is_ended end.stage || end.is_cut) ≡ false → HasPlace reader end (items.Answer answer))
+pub behind_answer : (reader : Reader) (end : WorldEnd) (answer : Answer) (waits : List (Frame × Weight)) → AreFrames waits → ((is_ended end.stage || end.is_cut) ≡ false → HasPlace reader end (items.Answer answer))
     → (is_ended (item_arrives (answer_spelling answer) None end).stage || (item_arrives (answer_spelling answer) None end).is_cut) ≡ false → HasPlaces reader (item_arrives (answer_spelling answer) None end) waits
 behind_answer reader end answer waits are h = by_gone (is_ended end.stage || end.is_cut) refl where
   clash : {A : Type 0} → true ≡ false → A
@@ -130,13 +131,13 @@ module _ (scene : Scene) (x : Side) (cell : Cell × ℕ) (i : ℕ) (s : WorldSoc
   abbrev Now : Socket
   Now = taken known reads.more
 
-  abbrev Used : Socket
+  abbrev pub Used : Socket
   Used = record Now { user = Some (Number, Peer) }
 
-  abbrev Between : HostState
+  abbrev pub Between : HostState
   Between = with_socket Now Own
 
-  abbrev Asking : HostState
+  abbrev pub Asking : HostState
   Asking = with_socket Used Between
 
   abbrev L : Link
@@ -170,7 +171,7 @@ module _ (scene : Scene) (x : Side) (cell : Cell × ℕ) (i : ℕ) (s : WorldSoc
     | None ↦ links.hears (inputs.Asked known.number) L Asking
   ])
 
-  hears_request : is_shut Number Own ≡ false → reads_front scene x known ≡ host.after_steps (steps.Read known.number ∷ []) (links.hears (inputs.Asked known.number) L Asking)
+  pub hears_request : is_shut Number Own ≡ false → reads_front scene x known ≡ host.after_steps (steps.Read known.number ∷ []) (links.hears (inputs.Asked known.number) L Asking)
   hears_request stands = takes_request ∙ ap (λ b. Checked b (list_any (is_open_endpoint Number) Own.ends)) matches ∙ ap (Checked false) (stands_then (list_any (is_open_endpoint Number) Own.ends) stands)
 
   refuses_request : is_shut Number Own ≡ true → reads_front scene x known ≡ host.after_steps (steps.Read known.number ∷ []) (answers_and_leaves known.number answers.Invalid Between)
@@ -179,25 +180,25 @@ module _ (scene : Scene) (x : Side) (cell : Cell × ℕ) (i : ℕ) (s : WorldSoc
   first : Seen.in_t ≡ pair.Request ∷ Rest
   first = read.first_is scene x cell T i s known The acts reads
 
-  abbrev Left_there : Sock
+  abbrev pub Left_there : Sock
   Left_there = record Seen { in_t = Rest }
 
-  asked_so : (b : Bool) → is_shut Number Own ≡ b → after (Read_t i) V ≡ asked step_of b x i (put i Left_there V)
+  pub asked_so : (b : Bool) → is_shut Number Own ≡ b → after (Read_t i) V ≡ asked step_of b x i (put i Left_there V)
   asked_so b is = reads_request V i Seen x Rest (read.sock_at scene x cell T i s known The acts reads) reads.has.opener asks first ∙ ap (λ z. asked step_of z x i (put i Left_there V)) is
 
   -- ---- declined
 
-  abbrev Wrote : Answer → WorldSocket
+  abbrev pub Wrote : Answer → WorldSocket
   Wrote answer = read.Wrote scene x cell T i s known The acts reads (items.Answer answer) None
 
-  abbrev Over : Answer → WorldSocket
+  abbrev pub Over : Answer → WorldSocket
   Over answer = with_end T (world.ended (Wrote answer).t) (Wrote answer)
 
-  over_is : (answer : Answer) → TakesItem (hosts_of scene.world) expected.Answer s.o (items.Answer answer) → sock_by scene.party T (expected.Frame, []) Their (Over answer) ≡ turned_down (kind (items.Answer answer)) Left_there
+  pub over_is : (answer : Answer) → TakesItem (hosts_of scene.world) expected.Answer s.o (items.Answer answer) → sock_by scene.party T (expected.Frame, []) Their (Over answer) ≡ turned_down (kind (items.Answer answer)) Left_there
   over_is answer way = gone_there scene.party T (expected.Frame, reads.more) Their (Wrote answer) reads.has.target
       ∙ ap (ended_at T) (read.wrote_is scene x cell T i s known The acts reads (items.Answer answer) None way ∙ says_at T x (kind (items.Answer answer)) (upped T Rest Seen) reads.has.opener)
 
-  over_alike : (answer : Answer) → Alike s (Over answer)
+  pub over_alike : (answer : Answer) → Alike s (Over answer)
   over_alike answer = alike_with T s (Wrote answer) (world.ended (Wrote answer).t) (read.wrote_alike scene x cell T i s known The acts reads (items.Answer answer) None) refl refl
 
   module _ (answer : Answer) (after_it : HostState) (state : LinkState) (r : Socket) (kept : Kept known.number Number Peer Own after_it state) (found : find (is_socket known.number) after_it.sockets ≡ Some (record r { stage = Ended; since = [] }))
@@ -237,20 +238,20 @@ module _ (scene : Scene) (x : Side) (cell : Cell × ℕ) (i : ℕ) (s : WorldSoc
   }
 
   -- the host with the asking link in a state
-  abbrev Asked_in : LinkState → HostState
+  abbrev pub Asked_in : LinkState → HostState
   Asked_in state = with_link (In state) Asking
 
   kept_asked : (link : Link) → link.end ≡ L.end → link.peer ≡ L.peer → Kept known.number Number Peer Own (with_link link Asking) link.state
   kept_asked link a b = kept_link known.number Number Peer link Own Asking L.state (a ∙ (link_named Own Number Peer).0) (b ∙ (link_named Own Number Peer).1)
       (kept_socket Used Number Peer Own Between L.state (kept_socket Now Number Peer Own Own L.state (kept_all known.number Number Peer Own)))
 
-  abbrev Crossed_in : LinkState → HostState
+  abbrev pub Crossed_in : LinkState → HostState
   Crossed_in state = with_socket (record Used { stage = Ended; since = [] }) (Asked_in state)
 
-  kept_crossed : (state : LinkState) → Kept known.number Number Peer Own (Crossed_in state) state
+  pub kept_crossed : (state : LinkState) → Kept known.number Number Peer Own (Crossed_in state) state
   kept_crossed state = kept_socket (record Used { stage = Ended; since = [] }) Number Peer Own (Asked_in state) state (kept_asked (In state) refl refl)
 
-  ends_used : (state : LinkState) → end_socket known.number (Asked_in state) ≡ Crossed_in state
+  pub ends_used : (state : LinkState) → end_socket known.number (Asked_in state) ≡ Crossed_in state
   ends_used state = ap (λ (o : Option Socket). ended_in o (Asked_in state)) (socket_kept Used Between.sockets)
 
   crosses_in : (state : LinkState) → is_shut Number Own ≡ false → TakesItem (hosts_of scene.world) expected.Answer s.o (items.Answer answers.Crossed)
@@ -271,3 +272,74 @@ module _ (scene : Scene) (x : Side) (cell : Cell × ℕ) (i : ℕ) (s : WorldSoc
   pub request_while_probed : (up : ℕ) → is_shut Number Own ≡ false → L.state ≡ Up up true → TakesItem (hosts_of scene.world) expected.Answer s.o (items.Answer answers.Crossed) → IsSeen scene x cell (reads_front scene x known) (Read_t i ∷ [])
   request_while_probed up stands is way = crosses_in (Up up true) stands way (crosses_probed L up known.number Asking is)
       (crossed_probed V x i (place_of P scene.world.sockets up) Left_there (ap (with_places (place_of P scene.world.sockets)) is))
+
+  pub ordered : addresses.is_greater (own_address Asking L.end) L.peer ≡ is_greater x
+  ordered = let key = link_named Own Number Peer in
+      ap (λ (n : ℕ). addresses.is_greater (own_address Own n) L.peer) key.0 ∙ ap (λ (a : Address). addresses.is_greater a L.peer) acts.own ∙ ap (addresses.is_greater (scene.party x).address) key.1 ∙ acts.order
+
+  -- a request to a node of the greater address that dials
+  pub request_while_dialing : (own : ℕ) → is_greater x ≡ true → is_shut Number Own ≡ false → L.state ≡ Dialing own → TakesItem (hosts_of scene.world) expected.Answer s.o (items.Answer answers.Crossed)
+      → IsSeen scene x cell (reads_front scene x known) (Read_t i ∷ [])
+  request_while_dialing own greater stands is way = crosses_in (Dialing own) stands way (crosses_dialing L own known.number Asking is (ordered ∙ greater))
+      (crossed_dialing V x i (place_of P scene.world.sockets own) Left_there (ap (with_places (place_of P scene.world.sockets)) is) greater)
+
+  -- ---- accepted
+
+  abbrev Raised : HostState
+  Raised = with_link (record L { state = Up known.number false; waits = [] }) (Asked_in (Up known.number false))
+
+  abbrev After_waits : WorldSocket
+  After_waits = write_all T L.waits (Wrote answers.Accepted)
+
+  abbrev pub Came : Sock
+  Came = taken_up Left_there
+
+  abbrev pub More : List Step
+  More = steps.Up known.number ∷ steps.Write known.number (answer_spelling answers.Accepted) None ∷ map (frame_step known.number) L.waits
+
+  accepts : is_shut Number Own ≡ false → AreData L.waits → AreFrames L.waits → TakesItem (hosts_of scene.world) expected.Answer s.o (items.Answer answers.Accepted)
+      → links.hears (inputs.Asked known.number) L Asking ≡ Ok (steps.Up known.number ∷ steps.Write known.number (answer_spelling answers.Accepted) None ∷ map (frame_step known.number) L.waits, Raised)
+      → hears step_of x i (inputs.Asked i) (put i Left_there V) ≡ point x (Up i false) (put i Came V)
+      → IsSeen scene x cell (reads_front scene x known) (accepts_and_says scene x i)
+  accepts stands are spelled way did moved = record {
+    steps = steps.Read known.number ∷ More;
+    host = Raised;
+    does = hears_request stands ∙ ap (host.after_steps (steps.Read known.number ∷ [])) did;
+    allowed = (tt, may_say x L.waits (after (Read_t i) V));
+    seen = read.read_and_then scene x cell T i s known The acts reads More Raised (Up known.number false) After_waits Used
+        (all_alike T L.waits s (Wrote answers.Accepted) (read.wrote_alike scene x cell T i s known The acts reads (items.Answer answers.Accepted) None))
+        (kept_link known.number Number Peer (record L { state = Up known.number false; waits = [] }) Own (Asked_in (Up known.number false)) (Up known.number false)
+        (link_named Own Number Peer).0 (link_named Own Number Peer).1 (kept_asked (In (Up known.number false)) refl refl))
+        (socket_kept Used Between.sockets) told
+        ∙ ap (λ (k : LinkState). point x k (put i (sock_by scene.party T (expected.Frame, reads.more) Their After_waits) V)) (read.up_here scene x cell T i s known The acts reads false)
+        ∙ ap (λ (z : Sock). point x (Up i false) (put i z V)) socket_now
+        ∙ sym said;
+  } where
+    told : (all_told P (record (cell.0) { host = Raised }) (told_steps (steps.Up known.number ∷ steps.Write known.number (answer_spelling answers.Accepted) None ∷ map (frame_step known.number) L.waits))
+        (record (read.Then scene x cell T i s known The acts reads Raised) { sockets = slice_set scene.world.sockets i Read })).1
+        ≡ record (read.Then scene x cell T i s known The acts reads Raised) { sockets = slice_set scene.world.sockets i After_waits }
+    told = ap (λ (w : World). (all_told P (record (cell.0) { host = Raised }) (told_steps (steps.Write known.number (answer_spelling answers.Accepted) None ∷ map (frame_step known.number) L.waits)) w).1)
+        (up_there (read.Then scene x cell T i s known The acts reads Raised) i s Read T P known.number (record (cell.0) { host = Raised }) acts.apart reads.has.at (read.read_alike scene x cell T i s known The acts reads) reads.has.end)
+        ∙ ap (λ (w : World). (all_told P (record (cell.0) { host = Raised }) (told_steps (map (frame_step known.number) L.waits)) w).1)
+        (writes_there (read.Then scene x cell T i s known The acts reads Raised) i s Read T P known.number (record (cell.0) { host = Raised }) acts.apart reads.has.at (read.read_alike scene x cell T i s known The acts reads) reads.has.end
+        (answer_spelling answers.Accepted) None)
+        ∙ writes_all (read.Then scene x cell T i s known The acts reads Raised) i s T P known.number (record (cell.0) { host = Raised }) acts.apart reads.has.at reads.has.end L.waits (Wrote answers.Accepted)
+        (read.wrote_alike scene x cell T i s known The acts reads (items.Answer answers.Accepted) None)
+
+    socket_now : sock_by scene.party T (expected.Frame, reads.more) Their After_waits ≡ says_all x L.waits Came
+    socket_now = all_wrote scene.party T x (expected.Frame, reads.more) Their L.waits (Wrote answers.Accepted) are reads.has.opener reads.has.target (behind_answer Their s.o answers.Accepted L.waits spelled way)
+        ∙ ap (says_all x L.waits) (read.wrote_is scene x cell T i s known The acts reads (items.Answer answers.Accepted) None way ∙ says_at T x pair.Accepted (upped T Rest Seen) reads.has.opener)
+
+    said : run (accepts_and_says scene x i) V ≡ point x (Up i false) (put i (says_all x L.waits Came) V)
+    said = ap (run (each_said x L.waits)) (asked_so false stands ∙ moved)
+        ∙ said_all x i false L.waits (point x (Up i false) (put i Came V)) (point_own x (Up i false) (put i Came V))
+        ∙ ap (λ (z : Sock). put i (says_all x L.waits z) (point x (Up i false) (put i Came V))) (put_here i Came V)
+        ∙ ap (point x (Up i false)) (put_put i (says_all x L.waits Came) Came V)
+
+  -- a request to a node that dials nothing and isn't up
+  pub request_while_free : ((L.state ≡ Idle) ⊎ (L.state ≡ AwaitOther)) → is_shut Number Own ≡ false → AreData L.waits → AreFrames L.waits → TakesItem (hosts_of scene.world) expected.Answer s.o (items.Answer answers.Accepted)
+      → IsSeen scene x cell (reads_front scene x known) (accepts_and_says scene x i)
+  request_while_free (inl is) stands are spelled way = accepts stands are spelled way (accepts_idle L known.number Asking is)
+      (accepted_idle V x i Left_there (ap (with_places (place_of P scene.world.sockets)) is))
+  request_while_free (inr is) stands are spelled way = accepts stands are spelled way (accepts_awaiting L known.number Asking is)
+      (accepted_awaiting V x i Left_there (ap (with_places (place_of P scene.world.sockets)) is))

@@ -8,13 +8,14 @@ ghost use Rattle.std.specs.Prelude.{ℕ, Bool, List, [], ◌∷◌};
 ghost use Rattle.ch_model.specs.declared.name.End.{End};
 ghost use Rattle.ch_model.specs.HostState.{Socket};
 ghost use Rattle.ch_model.specs.WorldState.{Cell, WorldSocket};
-ghost use Rattle.ch_race.specs.Pair.{Side};
+ghost use Rattle.ch_race.specs.Pair.{Side, Greater};
 ghost use Rattle.ch_laws_race.specs.Scene.{Scene};
 ghost use Rattle.ch_laws_race.specs.Reading.{IsSeen, read_at, reads_front};
 ghost use Rattle.ch_laws_race.specs.Frames.{ReadsProbe, ReadsAck, ReadsClosed};
 ghost use Rattle.ch_laws_race.specs.Answers.{ReadsAnswer, ReadsAccepted, reads_and_says};
+ghost use Rattle.ch_laws_race.specs.Requests.{ReadsWhileShut, ReadsWhileFree, ReadsWhileDialing, ReadsWhileProbed, accepts_and_says};
 ghost use Rattle.ch_laws_race.specs.Scene.{link_of};
-ghost use Rattle.ch_race.specs.Moves.{Read_o};
+ghost use Rattle.ch_race.specs.Moves.{Read_o, Read_t};
 ghost use Rattle.ch_wire.specs.declared.answer.Answer.TheVariants.{Crossed, Invalid};
 
 /// A probe that is read on the socket that the link is up on is acknowledged there, at either end.
@@ -51,4 +52,28 @@ pub fn crossing_is_read()
 pub fn refusal_is_read()
     ensures { (scene : Scene) (x : Side) (cell : Cell × ℕ) (i : ℕ) (socket : WorldSocket) (known : Socket) → ReadsAnswer scene x cell i socket known Invalid
         → IsSeen scene x cell (reads_front scene x known) (Read_o i ∷ []) }
+{}
+
+/// A request that a node reads which is shut is answered "invalid", and its socket's end is ended; the link stays.
+pub fn request_while_shut()
+    ensures { (scene : Scene) (x : Side) (cell : Cell × ℕ) (i : ℕ) (socket : WorldSocket) (known : Socket) → ReadsWhileShut scene x cell i socket known
+        → IsSeen scene x cell (reads_front scene x known) (Read_t i ∷ []) }
+{}
+
+/// A request that a node reads which dials nothing and isn't up is accepted: the link is up there, and what waits is said.
+pub fn request_while_free()
+    ensures { (scene : Scene) (x : Side) (cell : Cell × ℕ) (i : ℕ) (socket : WorldSocket) (known : Socket) → ReadsWhileFree scene x cell i socket known
+        → IsSeen scene x cell (reads_front scene x known) (accepts_and_says scene x i) }
+{}
+
+/// A request that the node of the greater address reads while it dials is crossed, and it goes on dialing.
+pub fn request_while_greater_dials()
+    ensures { (scene : Scene) (cell : Cell × ℕ) (i : ℕ) (socket : WorldSocket) (known : Socket) (own : ℕ) → ReadsWhileDialing scene cell i socket known own
+        → IsSeen scene Greater cell (reads_front scene Greater known) (Read_t i ∷ []) }
+{}
+
+/// A request that a node reads while it is up and probed is crossed, and nothing more.
+pub fn request_while_probed()
+    ensures { (scene : Scene) (x : Side) (cell : Cell × ℕ) (i : ℕ) (socket : WorldSocket) (known : Socket) (up : ℕ) → ReadsWhileProbed scene x cell i socket known up
+        → IsSeen scene x cell (reads_front scene x known) (Read_t i ∷ []) }
 {}
