@@ -13,3 +13,4 @@ pub mod Read
 pub mod AnswersRead
 pub mod RequestsRead
 pub mod Two
+pub mod LeavesDial

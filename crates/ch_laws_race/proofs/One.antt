@@ -62,7 +62,7 @@ module _ (scene : Scene) (x : Side) (cell : Cell × ℕ) (e : End) (i number : �
   pub sock_is : V.sock i ≡ sock_of scene.party H s
   sock_is = ap (sock_seen scene.party H) has.at ∙ ap (λ b. cond b (sock_of scene.party H s) dead) has.between
 
-  other_off : is_end_of P number (end_of (world.other e) s) ≡ false
+  pub other_off : is_end_of P number (end_of (world.other e) s) ≡ false
   other_off = off e has.end where
     off : (f : End) → is_end_of P number (end_of f s) ≡ true → is_end_of P number (end_of (world.other f) s) ≡ false
     off O own = by_test (is_end_of P number s.t) (λ h. ends_differ (acts.apart.numbered i i s s O T P number has.at has.at own h).1) (λ h. h)

@@ -8,12 +8,12 @@ ghost use Rattle.std.specs.Prelude.{ℕ, Bool, List, [], ◌∷◌};
 ghost use Rattle.ch_model.specs.declared.name.End.{End};
 ghost use Rattle.ch_model.specs.HostState.{Socket};
 ghost use Rattle.ch_model.specs.WorldState.{Cell, WorldSocket};
-ghost use Rattle.ch_race.specs.Pair.{Side, Greater};
+ghost use Rattle.ch_race.specs.Pair.{Side, Lesser, Greater};
 ghost use Rattle.ch_laws_race.specs.Scene.{Scene};
 ghost use Rattle.ch_laws_race.specs.Reading.{IsSeen, read_at, reads_front};
 ghost use Rattle.ch_laws_race.specs.Frames.{ReadsProbe, ReadsAck, ReadsClosed};
 ghost use Rattle.ch_laws_race.specs.Answers.{ReadsAnswer, ReadsAccepted, reads_and_says};
-ghost use Rattle.ch_laws_race.specs.Requests.{ReadsWhileShut, ReadsWhileFree, ReadsWhileDialing, ReadsWhileProbed, accepts_and_says};
+ghost use Rattle.ch_laws_race.specs.Requests.{ReadsWhileShut, ReadsWhileFree, ReadsWhileDialing, ReadsWhileLesserDials, ReadsWhileProbed, accepts_and_says};
 ghost use Rattle.ch_laws_race.specs.Scene.{link_of};
 ghost use Rattle.ch_race.specs.Moves.{Read_o, Read_t};
 ghost use Rattle.ch_wire.specs.declared.answer.Answer.TheVariants.{Crossed, Invalid};
@@ -76,4 +76,10 @@ pub fn request_while_greater_dials()
 pub fn request_while_probed()
     ensures { (scene : Scene) (x : Side) (cell : Cell × ℕ) (i : ℕ) (socket : WorldSocket) (known : Socket) (up : ℕ) → ReadsWhileProbed scene x cell i socket known up
         → IsSeen scene x cell (reads_front scene x known) (Read_t i ∷ []) }
+{}
+
+/// A request that the node of the lesser address reads while it dials is accepted, and it leaves its own dial.
+pub fn request_while_lesser_dials()
+    ensures { (scene : Scene) (cell : Cell × ℕ) (i : ℕ) (socket : WorldSocket) (known : Socket) (j : ℕ) (dialed : WorldSocket) (own : Socket) → ReadsWhileLesserDials scene cell i socket known j dialed own
+        → IsSeen scene Lesser cell (reads_front scene Lesser known) (accepts_and_says scene Lesser i) }
 {}
