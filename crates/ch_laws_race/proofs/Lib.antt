@@ -14,3 +14,4 @@ pub mod AnswersRead
 pub mod RequestsRead
 pub mod Two
 pub mod LeavesDial
+pub mod ProbesThere

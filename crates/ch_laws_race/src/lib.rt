@@ -13,7 +13,7 @@ ghost use Rattle.ch_laws_race.specs.Scene.{Scene};
 ghost use Rattle.ch_laws_race.specs.Reading.{IsSeen, read_at, reads_front};
 ghost use Rattle.ch_laws_race.specs.Frames.{ReadsProbe, ReadsAck, ReadsClosed};
 ghost use Rattle.ch_laws_race.specs.Answers.{ReadsAnswer, ReadsAccepted, reads_and_says};
-ghost use Rattle.ch_laws_race.specs.Requests.{ReadsWhileShut, ReadsWhileFree, ReadsWhileDialing, ReadsWhileLesserDials, ReadsWhileProbed, accepts_and_says};
+ghost use Rattle.ch_laws_race.specs.Requests.{ReadsWhileShut, ReadsWhileFree, ReadsWhileDialing, ReadsWhileLesserDials, ReadsWhileUp, ReadsWhileProbed, accepts_and_says};
 ghost use Rattle.ch_laws_race.specs.Scene.{link_of};
 ghost use Rattle.ch_race.specs.Moves.{Read_o, Read_t};
 ghost use Rattle.ch_wire.specs.declared.answer.Answer.TheVariants.{Crossed, Invalid};
@@ -82,4 +82,10 @@ pub fn request_while_probed()
 pub fn request_while_lesser_dials()
     ensures { (scene : Scene) (cell : Cell × ℕ) (i : ℕ) (socket : WorldSocket) (known : Socket) (j : ℕ) (dialed : WorldSocket) (own : Socket) → ReadsWhileLesserDials scene cell i socket known j dialed own
         → IsSeen scene Lesser cell (reads_front scene Lesser known) (accepts_and_says scene Lesser i) }
+{}
+
+/// A request that a node reads while it is up on another socket, and isn't probed, is crossed; it writes a probe there.
+pub fn request_while_up()
+    ensures { (scene : Scene) (x : Side) (cell : Cell × ℕ) (i : ℕ) (socket : WorldSocket) (known : Socket) (e : End) (j : ℕ) (standing : WorldSocket) (up : Socket) → ReadsWhileUp scene x cell i socket known e j standing up
+        → IsSeen scene x cell (reads_front scene x known) (Read_t i ∷ []) }
 {}
