@@ -1,5 +1,5 @@
 -- What all readings of an item have in common.
-use Rattle.std.specs.Prelude.{◌≡◌, ℕ, Bool, true, false, cond, ◌||◌, List, [], ◌∷◌, ◌++◌, map, find, is_some, slice_set, Option, Some, None, Ok}
+use Rattle.std.specs.Prelude.{◌≡◌, ℕ, Bool, true, false, cond, ◌||◌, List, [], ◌∷◌, ◌++◌, map, find, is_some, nat_lt, slice_set, Option, Some, None, Result, Ok, Err, if◌then◌else◌}
 use Rattle.std.proofs.Common.{refl, ap, sym, ◌∙◌, subst}
 use Rattle.ch_base.specs.declared.address.Address.{Address}
 use Rattle.ch_reader.specs.declared.item.Expected.{Expected}
@@ -18,7 +18,15 @@ use Rattle.ch_model.specs.HostState.{Link, Socket, HostState}
 use Rattle.ch_model.specs.HostSteps as host
 use Rattle.ch_model.specs.HostSteps.{Stepped, still, is_socket, link_with, with_link, with_socket}
 use Rattle.ch_model.specs.Host.{takes}
-use Rattle.ch_model.specs.HostItems.{reads_on}
+use Rattle.ch_model.specs.HostItems as items_of
+use Rattle.ch_model.specs.HostItems.{most_arrived, arrived_at, with_arrival, next_arrival, posts, receives, reads_on}
+use Rattle.ch_base.specs.declared.event.Event.{Event}
+use Rattle.ch_base.specs.declared.event.Event.TheVariants as events
+use Rattle.ch_base.specs.declared.memory.Stop.TheVariants as stops
+use Rattle.ch_light.specs.declared.Connection.{Connection}
+use Rattle.ch_light.specs.declared.error.LightError.{LightError}
+use Rattle.ch_light.specs.Ids.{created_of, conn_of, closed_of}
+use Rattle.ch_laws_race.proofs.Pairs.{point_same}
 use Rattle.ch_model.specs.WorldState.{Cell, WorldEnd, WorldSocket, World}
 use Rattle.ch_model.specs.WorldSockets as world
 use Rattle.ch_model.specs.WorldSockets.{end_of, with_end, item_arrives}
@@ -27,7 +35,7 @@ use Rattle.ch_model.specs.CellSteps.{told_steps}
 use Rattle.ch_model.specs.HostWrites.{end_socket, ended_in, forgotten}
 use Rattle.ch_race.specs.Pair as pair
 use Rattle.ch_race.specs.Pair.{Side, other, Sock, Pair, put, point, says}
-use Rattle.ch_race.specs.Moves.{Allowed}
+use Rattle.ch_race.specs.Moves.{Allowed, run}
 use Rattle.ch_link.specs.declared.LinkState.{LinkState}
 use Rattle.ch_link.specs.declared.LinkState.TheVariants.{Idle, Dialing, AwaitOther, Up}
 use Rattle.ch_laws_race.specs.Scene.{Party, Scene, hosts_of, host_of, link_of, after_steps}
@@ -36,11 +44,11 @@ use Rattle.ch_laws_race.specs.Sound.{Acts, HasEnd, HasPlace, TakesItem, first_of
 use Rattle.ch_laws_race.specs.Reading.{Reads, IsUser, IsSeen, read_at, reads_front}
 use Rattle.ch_laws_race.proofs.Items.{stream_items}
 use Rattle.ch_laws_race.proofs.Sockets.{Alike, alike_self, alike_with}
-use Rattle.ch_laws_race.proofs.Views.{own_reader, Kept, kept_all, kept_link, kept_socket}
+use Rattle.ch_laws_race.proofs.Views.{own_reader, kept_arrival, arrival_sockets, Kept, kept_all, kept_link, kept_socket}
 use Rattle.ch_laws_race.proofs.Keys.{link_named, socket_kept}
 use Rattle.ch_laws_race.proofs.Steps.{one_read, arrived_alike, writes_there, leaves_there, goes_down_there, up_there}
 use Rattle.ch_laws_race.proofs.Socks.{sock_by, upped, wrote, read_there, ended_at, gone_there, end_of_own}
-use Rattle.ch_laws_race.proofs.Readings.{taken, takes_front, left_behind, IsUp, unread, leaving, reads_probe, reads_ack, reads_closed}
+use Rattle.ch_laws_race.proofs.Readings.{taken, takes_front, left_behind, IsUp, unread, leaving, reads_probe, reads_ack, reads_closed, reads_data}
 use Rattle.ch_laws_race.proofs.Heard.{acknowledges, settles, told_failed, fails_up, acknowledged, settled, closed}
 use Rattle.ch_wire.specs.declared.frame.Frame.TheVariants as frames
 use Rattle.ch_wire.specs.Spelling.{frame_spelling}
@@ -339,3 +347,63 @@ module _ (scene : Scene) (x : Side) (cell : Cell × ℕ) (e : End) (i : ℕ) (s 
     ended_left : (f : End) (w : List pair.Item) (z : Sock) → ended_at f (leaving f w z) ≡ ended_at f z
     ended_left O w z = refl
     ended_left T w z = refl
+
+  -- ---- frames of connections
+
+  kept_between : Kept known.number Number Peer Own (with_socket Now Own) (link_of scene x).state
+  kept_between = kept_socket Now Number Peer Own Own (link_of scene x).state (kept_all known.number Number Peer Own)
+
+  -- the item is read, told to the node, and nothing else changes at the sockets
+  payload_seen : (after : HostState) (event : Event) → Kept known.number Number Peer Own after (link_of scene x).state → find (is_socket known.number) after.sockets ≡ Some Now → IsUp e Seen → kind item ≡ pair.Data
+      → view (after_steps scene x cell (steps.Read known.number ∷ steps.Post (link_of scene x).end event ∷ []) after) ≡ run (read_at e i ∷ []) V
+  payload_seen after event kept found up is = read_and_then (steps.Post (link_of scene x).end event ∷ []) after (link_of scene x).state Read Now read_alike kept found refl
+      ∙ ap (λ (z : Sock). point x (V.link x) (put i z V)) (read_is ∙ stays_up e Rest Seen up)
+      ∙ point_same x (V.link x) (put i (leaving e Rest Seen) V) refl
+      ∙ sym (reads_data V i Seen x Rest sock_at e up (first_is ∙ ap (λ (k : pair.Item). k ∷ Rest) is))
+
+  ends_up_by : (f : Frame) → item ≡ items.Frame f → IsUp e Seen
+  ends_up_by f is = is_up (frame_expected known.expected f (subst (MayStand known.expected) is reads.stream.each.0))
+
+  -- a payload is read
+  pub payload_read : (id : ℕ) (payload : List ℕ) (conn : ℕ) → item ≡ items.Frame (frames.Data id payload) → IsUser scene x known → conn_of (link_of scene x).created id ≡ Ok conn
+      → IsSeen scene x cell (reads_front scene x known) (read_at e i ∷ [])
+  payload_read id payload conn is user carried = record {
+    steps = steps.Read known.number ∷ steps.Post (link_of scene x).end (events.Received conn payload) ∷ [];
+    host = with_socket Now Own;
+    does = takes_frame (frames.Data id payload) is user
+        ∙ ap (λ (r : Result ℕ LightError). host.after_steps (steps.Read known.number ∷ []) (receives Now (link_of scene x) payload r (with_socket Now Own))) carried;
+    allowed = (may_read e i V, tt);
+    seen = payload_seen (with_socket Now Own) (events.Received conn payload) kept_between found_now (ends_up_by (frames.Data id payload) is) (ap kind is);
+  }
+
+  -- that a connection is closed is read
+  pub close_read : (id : ℕ) (left : ℕ × List Connection) → item ≡ items.Frame (frames.Closed id) → IsUser scene x known → closed_of (link_of scene x).created id ≡ Ok left
+      → IsSeen scene x cell (reads_front scene x known) (read_at e i ∷ [])
+  close_read id left is user closes = record {
+    steps = steps.Read known.number ∷ steps.Post (link_of scene x).end (events.ConnectionClosed left.0) ∷ [];
+    host = with_link (record (link_of scene x) { created = left.1 }) (with_socket Now Own);
+    does = takes_frame (frames.Closed id) is user
+        ∙ ap (λ (r : Result (ℕ × List Connection) LightError). host.after_steps (steps.Read known.number ∷ []) (items_of.closes Now (link_of scene x) r (with_socket Now Own))) closes;
+    allowed = (may_read e i V, tt);
+    seen = payload_seen (with_link (record (link_of scene x) { created = left.1 }) (with_socket Now Own)) (events.ConnectionClosed left.0)
+        (kept_with (record (link_of scene x) { created = left.1 }) refl refl) found_now (ends_up_by (frames.Closed id) is) (ap kind is);
+  }
+
+  -- that a connection is opened is read
+  pub open_read : (id : ℕ) (created : List Connection) → item ≡ items.Frame (frames.Created id) → IsUser scene x known
+      → created_of (link_of scene x).created id (next_arrival Own (link_of scene x).end) ≡ Ok created → nat_lt (arrived_at Own (link_of scene x).end) most_arrived ≡ true
+      → IsSeen scene x cell (reads_front scene x known) (read_at e i ∷ [])
+  open_read id created is user creates grows = record {
+    steps = steps.Read known.number ∷ steps.Post (link_of scene x).end (events.ConnectionOpened (next_arrival Own (link_of scene x).end) (link_of scene x).peer) ∷ [];
+    host = with_arrival (link_of scene x).end (with_link (record (link_of scene x) { created = created }) (with_socket Now Own));
+    does = takes_frame (frames.Created id) is user
+        ∙ ap (λ (r : Result (List Connection) LightError). host.after_steps (steps.Read known.number ∷ []) (items_of.arrives Now (link_of scene x) r (with_socket Now Own))) creates
+        ∙ ap (λ b. host.after_steps (steps.Read known.number ∷ []) (if b then posts (link_of scene x).end (events.ConnectionOpened (next_arrival Own (link_of scene x).end) (link_of scene x).peer)
+        (with_arrival (link_of scene x).end (with_link (record (link_of scene x) { created = created }) (with_socket Now Own))) else Err stops.Worn)) grows;
+    allowed = (may_read e i V, tt);
+    seen = payload_seen (with_arrival (link_of scene x).end (with_link (record (link_of scene x) { created = created }) (with_socket Now Own)))
+        (events.ConnectionOpened (next_arrival Own (link_of scene x).end) (link_of scene x).peer)
+        (kept_arrival known.number Number Peer (link_of scene x).end Own (with_link (record (link_of scene x) { created = created }) (with_socket Now Own)) (link_of scene x).state (kept_with (record (link_of scene x) { created = created }) refl refl))
+        (arrival_sockets (link_of scene x).end (with_link (record (link_of scene x) { created = created }) (with_socket Now Own)) known.number ∙ found_now)
+        (ends_up_by (frames.Created id) is) (ap kind is);
+  }

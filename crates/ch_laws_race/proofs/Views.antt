@@ -1,6 +1,7 @@
 -- What a change at one host and at one socket changes of what is seen.
 use mathlib.Core.Path.{fun_ext}
-use Rattle.std.specs.Prelude.{◌≡◌, ℕ, Bool, true, false, cond, not, ◌&&◌, ◌==◌, nat_eq, List, find, slice_get, slice_set, Option, Some, None}
+use Rattle.std.specs.Prelude.{◌≡◌, ℕ, ◌+◌, Bool, true, false, cond, not, ◌&&◌, ◌||◌, ◌==◌, nat_eq, List, [], ◌∷◌, find, slice_get, slice_set, Option, Some, None}
+use Rattle.std.specs.List.{list_any}
 use Rattle.std.proofs.Common.{refl, ap, sym, ◌∙◌, subst, arith}
 use Rattle.std.proofs.lemmas.Bool.{eqb-true, and_parts}
 use Rattle.std.proofs.lemmas.Bool.Decides.{nat_tests}
@@ -12,8 +13,9 @@ use Rattle.ch_light.proofs.Lists.{set_here, set_other}
 use Rattle.ch_link.specs.declared.LinkState.{LinkState}
 use Rattle.ch_model.specs.declared.name.End.{End}
 use Rattle.ch_model.specs.declared.name.End.TheVariants.{O, T}
-use Rattle.ch_model.specs.HostState.{Link, Socket, HostState}
-use Rattle.ch_model.specs.HostSteps.{is_socket, link_with, with_link, with_socket}
+use Rattle.ch_model.specs.HostState.{Endpoint, Link, Socket, HostState}
+use Rattle.ch_model.specs.HostSteps.{is_endpoint, is_open_endpoint, store_endpoint, with_endpoint, is_socket, link_with, with_link, with_socket}
+use Rattle.ch_model.specs.HostItems.{with_arrival}
 use Rattle.ch_model.specs.Same.{is_between}
 use Rattle.ch_model.specs.WorldState.{Cell, WorldEnd, WorldSocket, World}
 use Rattle.ch_model.specs.WorldSockets.{end_of, same_number, is_end_of}
@@ -23,7 +25,7 @@ use Rattle.ch_laws_race.specs.Scene.{Party, host_in, hosts_of}
 use Rattle.ch_laws_race.specs.View.{Reader, reader_of, record_of, reader_at, sock_with, sock_of, sock_seen, place_of, with_places, is_shut, seen}
 use Rattle.ch_laws_race.specs.Sound.{AreApart}
 use Rattle.ch_laws_race.proofs.Keys.{equal_numbers, link_kept, other_link, socket_kept, other_socket, wrong}
-use Rattle.ch_laws_race.proofs.Sockets.{by_test, same_place, other_place, Alike, no_other_end, places_stay}
+use Rattle.ch_laws_race.proofs.Sockets.{by_test, given, none, same_place, other_place, Alike, no_other_end, places_stay}
 
 -- pairs that agree in all their parts are one
 pub alike_pairs : (p q : Pair) → ((x : Side) → p.link x ≡ q.link x) → ((x : Side) → p.shut x ≡ q.shut x) → ((i : ℕ) → p.sock i ≡ q.sock i) → p.quiet ≡ q.quiet → p ≡ q
@@ -80,6 +82,55 @@ kept_socket socket end peer before now state k = record {
   links = k.links;
   sockets = λ m h. other_socket socket m h now.sockets ∙ k.sockets m h;
   ends = k.ends;
+}
+
+-- one more connection has arrived at an endpoint: which are open is as before
+number_found : (end : ℕ) (endpoint : Endpoint) (ends : List Endpoint) → find (is_endpoint end) ends ≡ Some endpoint → endpoint.number ≡ end
+number_found end endpoint [] found = none endpoint found
+number_found end endpoint (known ∷ rest) found = by_own (is_endpoint end known) refl found (number_found end endpoint rest) where
+  by_own : (b : Bool) → is_endpoint end known ≡ b → cond b (Some known) (find (is_endpoint end) rest) ≡ Some endpoint → (find (is_endpoint end) rest ≡ Some endpoint → endpoint.number ≡ end) → endpoint.number ≡ end
+  by_own true is h f = ap (λ (z : Endpoint). z.number) (sym (given known endpoint h)) ∙ eqb-true known.number end is
+  by_own false is h f = f h
+
+opened_still : (end other : ℕ) (endpoint : Endpoint) (ends : List Endpoint) → find (is_endpoint end) ends ≡ Some endpoint
+    → list_any (is_open_endpoint other) (store_endpoint (record endpoint { arrived = endpoint.arrived + 1 }) ends) ≡ list_any (is_open_endpoint other) ends
+opened_still end other endpoint [] found = refl
+opened_still end other endpoint (known ∷ rest) found = by_own (is_endpoint end known) refl found (opened_still end other endpoint rest) where
+  by_own : (b : Bool) → is_endpoint end known ≡ b → cond b (Some known) (find (is_endpoint end) rest) ≡ Some endpoint
+      → (find (is_endpoint end) rest ≡ Some endpoint → list_any (is_open_endpoint other) (store_endpoint (record endpoint { arrived = endpoint.arrived + 1 }) rest) ≡ list_any (is_open_endpoint other) rest)
+      → list_any (is_open_endpoint other) (cond (is_endpoint endpoint.number known) (record endpoint { arrived = endpoint.arrived + 1 } ∷ rest) (known ∷ store_endpoint (record endpoint { arrived = endpoint.arrived + 1 }) rest))
+      ≡ list_any (is_open_endpoint other) (known ∷ rest)
+  by_own true is h f = ap (λ b. list_any (is_open_endpoint other) (cond b (record endpoint { arrived = endpoint.arrived + 1 } ∷ rest) (known ∷ store_endpoint (record endpoint { arrived = endpoint.arrived + 1 }) rest)))
+      (ap (λ (n : ℕ). is_endpoint n known) (number_found end endpoint (known ∷ rest) found) ∙ is)
+      ∙ ap (λ (z : Endpoint). list_any (is_open_endpoint other) (z ∷ rest)) (sym (given known endpoint h))
+  by_own false is h f = ap (λ b. list_any (is_open_endpoint other) (cond b (record endpoint { arrived = endpoint.arrived + 1 } ∷ rest) (known ∷ store_endpoint (record endpoint { arrived = endpoint.arrived + 1 }) rest)))
+      (ap (λ (n : ℕ). is_endpoint n known) (number_found end endpoint (known ∷ rest) found) ∙ is)
+      ∙ ap (λ b. is_open_endpoint other known || b) (f h)
+
+arrival_ends : (end other : ℕ) (host : HostState) → is_shut other (with_arrival end host) ≡ is_shut other host
+arrival_ends end other host = by_found (find (is_endpoint end) host.ends) refl where
+  by_found : (o : Option Endpoint) → find (is_endpoint end) host.ends ≡ o → is_shut other (elim o [ None ↦ host | Some endpoint ↦ with_endpoint (record endpoint { arrived = endpoint.arrived + 1 }) host ]) ≡ is_shut other host
+  by_found None is = refl
+  by_found (Some endpoint) is = ap not (opened_still end other endpoint host.ends is)
+
+arrival_links : (end number : ℕ) (peer : Address) (host : HostState) → link_with (with_arrival end host) number peer ≡ link_with host number peer
+arrival_links end number peer host = by_found (find (is_endpoint end) host.ends) where
+  by_found : (o : Option Endpoint) → link_with (elim o [ None ↦ host | Some endpoint ↦ with_endpoint (record endpoint { arrived = endpoint.arrived + 1 }) host ]) number peer ≡ link_with host number peer
+  by_found None = refl
+  by_found (Some endpoint) = refl
+
+pub arrival_sockets : (end : ℕ) (host : HostState) (m : ℕ) → find (is_socket m) (with_arrival end host).sockets ≡ find (is_socket m) host.sockets
+arrival_sockets end host m = by_found (find (is_endpoint end) host.ends) where
+  by_found : (o : Option Endpoint) → find (is_socket m) (elim o as (λ o. HostState) [ None ↦ host | Some endpoint ↦ with_endpoint (record endpoint { arrived = endpoint.arrived + 1 }) host ]).sockets ≡ find (is_socket m) host.sockets
+  by_found None = refl
+  by_found (Some endpoint) = refl
+
+pub kept_arrival : (number end : ℕ) (peer : Address) (at : ℕ) (before now : HostState) (state : LinkState) → Kept number end peer before now state → Kept number end peer before (with_arrival at now) state
+kept_arrival number end peer at before now state k = record {
+  link = ap (λ (l : Link). l.state) (arrival_links at end peer now) ∙ k.link;
+  links = λ z a h. arrival_links at z a now ∙ k.links z a h;
+  sockets = λ m h. arrival_sockets at now m ∙ k.sockets m h;
+  ends = λ z. arrival_ends at z now ∙ k.ends z;
 }
 
 -- ---- the record of an end

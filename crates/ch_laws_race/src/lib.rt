@@ -11,7 +11,8 @@ ghost use Rattle.ch_model.specs.WorldState.{Cell, WorldSocket};
 ghost use Rattle.ch_race.specs.Pair.{Side, Lesser, Greater};
 ghost use Rattle.ch_laws_race.specs.Scene.{Scene};
 ghost use Rattle.ch_laws_race.specs.Reading.{IsSeen, read_at, reads_front};
-ghost use Rattle.ch_laws_race.specs.Frames.{ReadsProbe, ReadsAck, ReadsClosed};
+ghost use Rattle.ch_laws_race.specs.Frames.{ReadsProbe, ReadsAck, ReadsClosed, ReadsPayload, ReadsClose, ReadsOpen};
+ghost use Rattle.ch_light.specs.declared.Connection.{Connection};
 ghost use Rattle.ch_laws_race.specs.Answers.{ReadsAnswer, ReadsAccepted, reads_and_says};
 ghost use Rattle.ch_laws_race.specs.Requests.{ReadsWhileShut, ReadsWhileFree, ReadsWhileDialing, ReadsWhileLesserDials, ReadsWhileUp, ReadsWhileProbed, accepts_and_says};
 ghost use Rattle.ch_laws_race.specs.Scene.{link_of};
@@ -88,4 +89,22 @@ pub fn request_while_lesser_dials()
 pub fn request_while_up()
     ensures { (scene : Scene) (x : Side) (cell : Cell × ℕ) (i : ℕ) (socket : WorldSocket) (known : Socket) (e : End) (j : ℕ) (standing : WorldSocket) (up : Socket) → ReadsWhileUp scene x cell i socket known e j standing up
         → IsSeen scene x cell (reads_front scene x known) (Read_t i ∷ []) }
+{}
+
+/// A payload that is read on an open connection is told to the node, and nothing else changes at the sockets.
+pub fn payload_is_read()
+    ensures { (scene : Scene) (x : Side) (cell : Cell × ℕ) (e : End) (i : ℕ) (socket : WorldSocket) (known : Socket) (id : ℕ) (payload : List ℕ) (conn : ℕ) → ReadsPayload scene x cell e i socket known id payload conn
+        → IsSeen scene x cell (reads_front scene x known) (read_at e i ∷ []) }
+{}
+
+/// That a connection is closed, which was open, likewise.
+pub fn close_is_read()
+    ensures { (scene : Scene) (x : Side) (cell : Cell × ℕ) (e : End) (i : ℕ) (socket : WorldSocket) (known : Socket) (id : ℕ) (left : ℕ × List Connection) → ReadsClose scene x cell e i socket known id left
+        → IsSeen scene x cell (reads_front scene x known) (read_at e i ∷ []) }
+{}
+
+/// That a connection is opened under the next id likewise.
+pub fn opening_is_read()
+    ensures { (scene : Scene) (x : Side) (cell : Cell × ℕ) (e : End) (i : ℕ) (socket : WorldSocket) (known : Socket) (id : ℕ) (created : List Connection) → ReadsOpen scene x cell e i socket known id created
+        → IsSeen scene x cell (reads_front scene x known) (read_at e i ∷ []) }
 {}
