@@ -15,3 +15,4 @@ pub mod RequestsRead
 pub mod Two
 pub mod LeavesDial
 pub mod ProbesThere
+pub mod Over

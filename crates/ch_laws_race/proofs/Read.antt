@@ -287,7 +287,7 @@ module _ (scene : Scene) (x : Side) (cell : Cell × ℕ) (e : End) (i : ℕ) (s 
   Over = with_end e (world.ended (end_of e Read)) Read
 
   over_is : sock_by scene.party e (expected.Frame, []) Their Over ≡ ended_at e Seen
-  over_is = gone_there scene.party e (expected.Frame, reads.more) Their Read (target_stays e s ∙ reads.has.target) ∙ ap (ended_at e) read_is ∙ ended_same e Rest Seen where
+  over_is = gone_there scene.party e expected.Frame (expected.Frame, reads.more) Their Read (target_stays e s ∙ reads.has.target) ∙ ap (ended_at e) read_is ∙ ended_same e Rest Seen where
     ended_same : (f : End) (w : List pair.Item) (z : Sock) → ended_at f (upped f w z) ≡ ended_at f z
     ended_same O w z = refl
     ended_same T w z = refl

@@ -195,7 +195,7 @@ module _ (scene : Scene) (x : Side) (cell : Cell × ℕ) (i : ℕ) (s : WorldSoc
   Over answer = with_end T (world.ended (Wrote answer).t) (Wrote answer)
 
   pub over_is : (answer : Answer) → TakesItem (hosts_of scene.world) expected.Answer s.o (items.Answer answer) → sock_by scene.party T (expected.Frame, []) Their (Over answer) ≡ turned_down (kind (items.Answer answer)) Left_there
-  over_is answer way = gone_there scene.party T (expected.Frame, reads.more) Their (Wrote answer) reads.has.target
+  over_is answer way = gone_there scene.party T expected.Frame (expected.Frame, reads.more) Their (Wrote answer) reads.has.target
       ∙ ap (ended_at T) (read.wrote_is scene x cell T i s known The acts reads (items.Answer answer) None way ∙ says_at T x (kind (items.Answer answer)) (upped T Rest Seen) reads.has.opener)
 
   pub over_alike : (answer : Answer) → Alike s (Over answer)

@@ -177,10 +177,10 @@ ended_at O s = pair.end_o s
 ended_at T s = pair.end_t s
 
 -- an end that is closed, with its host's record emptied
-pub gone_there : (party : Side → Party) (e : End) (mine theirs : Reader) (s : WorldSocket) → is_some s.t.cell ≡ true
-    → sock_by party e (expected.Frame, []) theirs (with_end e (world.ended (end_of e s)) s) ≡ ended_at e (sock_by party e mine theirs s)
-gone_there party O mine theirs s there = refl
-gone_there party T mine theirs s there = ap (λ b. record (sock_with party theirs mine s) { t = target_end b Ended expected.Frame; in_t = [] }) there
+pub gone_there : (party : Side → Party) (e : End) (kept : Expected) (mine theirs : Reader) (s : WorldSocket) → is_some s.t.cell ≡ true
+    → sock_by party e (kept, []) theirs (with_end e (world.ended (end_of e s)) s) ≡ ended_at e (sock_by party e mine theirs s)
+gone_there party O kept mine theirs s there = refl
+gone_there party T kept mine theirs s there = ap (λ b. record (sock_with party theirs mine s) { t = target_end b Ended kept; in_t = [] }) there
 
 -- what a node's own end is
 pub end_of_own : (e : End) (x : Side) (s : Sock) → s.opener ≡ opener_by e x → pair.end_of x s ≡ ended_at e s

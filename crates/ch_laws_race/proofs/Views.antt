@@ -155,7 +155,7 @@ own_reader hosts p number first end h = ap (reader_of first) (own_record hosts p
 
 -- ---- what is seen
 
-by_side : {X : Type 0} (f g : Side → X) (x : Side) (k : X) → f x ≡ k → f (other x) ≡ g (other x) → (z : Side) → f z ≡ cond (same z x) k (g z)
+pub by_side : {X : Type 0} (f g : Side → X) (x : Side) (k : X) → f x ≡ k → f (other x) ≡ g (other x) → (z : Side) → f z ≡ cond (same z x) k (g z)
 by_side f g Lesser k own peer Lesser = own
 by_side f g Lesser k own peer Greater = peer
 by_side f g Greater k own peer Lesser = peer

@@ -15,6 +15,7 @@ ghost use Rattle.ch_laws_race.specs.Frames.{ReadsProbe, ReadsAck, ReadsClosed, R
 ghost use Rattle.ch_light.specs.declared.Connection.{Connection};
 ghost use Rattle.ch_laws_race.specs.Answers.{ReadsAnswer, ReadsAccepted, reads_and_says};
 ghost use Rattle.ch_laws_race.specs.Requests.{ReadsWhileShut, ReadsWhileFree, ReadsWhileDialing, ReadsWhileLesserDials, ReadsWhileUp, ReadsWhileProbed, accepts_and_says};
+ghost use Rattle.ch_laws_race.specs.Ends.{InputEndsUp, InputEndsDialing, InputEndsUnnamed, end_at, input_ends};
 ghost use Rattle.ch_laws_race.specs.Scene.{link_of};
 ghost use Rattle.ch_race.specs.Moves.{Read_o, Read_t};
 ghost use Rattle.ch_wire.specs.declared.answer.Answer.TheVariants.{Crossed, Invalid};
@@ -107,4 +108,22 @@ pub fn close_is_read()
 pub fn opening_is_read()
     ensures { (scene : Scene) (x : Side) (cell : Cell × ℕ) (e : End) (i : ℕ) (socket : WorldSocket) (known : Socket) (id : ℕ) (created : List Connection) → ReadsOpen scene x cell e i socket known id created
         → IsSeen scene x cell (reads_front scene x known) (read_at e i ∷ []) }
+{}
+
+/// The end of input on the socket that the link is up on ends this end, and the link fails.
+pub fn input_ends_while_up()
+    ensures { (scene : Scene) (x : Side) (cell : Cell × ℕ) (e : End) (i : ℕ) (socket : WorldSocket) (known : Socket) (probed : Bool) → InputEndsUp scene x cell e i socket known probed
+        → IsSeen scene x cell (input_ends scene x known) (end_at e i ∷ []) }
+{}
+
+/// The same on the socket that the link dials.
+pub fn input_ends_while_dialing()
+    ensures { (scene : Scene) (x : Side) (cell : Cell × ℕ) (e : End) (i : ℕ) (socket : WorldSocket) (known : Socket) → InputEndsDialing scene x cell e i socket known
+        → IsSeen scene x cell (input_ends scene x known) (end_at e i ∷ []) }
+{}
+
+/// The end of input on a socket that the link doesn't name ends this end, and nothing else.
+pub fn input_ends_elsewhere()
+    ensures { (scene : Scene) (x : Side) (cell : Cell × ℕ) (e : End) (i : ℕ) (socket : WorldSocket) (known : Socket) → InputEndsUnnamed scene x cell e i socket known
+        → IsSeen scene x cell (input_ends scene x known) (end_at e i ∷ []) }
 {}
