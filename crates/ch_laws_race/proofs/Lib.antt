@@ -16,3 +16,5 @@ pub mod Two
 pub mod LeavesDial
 pub mod ProbesThere
 pub mod Over
+pub mod Grown
+pub mod Asks

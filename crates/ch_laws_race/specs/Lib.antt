@@ -6,3 +6,4 @@ pub mod Frames
 pub mod Answers
 pub mod Requests
 pub mod Ends
+pub mod Asks
