@@ -65,7 +65,7 @@ puts_up item link sock probed now up = ap (λ (k : LinkState). puts_and_wants it
     ∙ ap (λ (z : Link). host.after_steps (frame_step sock item ∷ []) (links.hears (inputs.Want (next_dial now)) z (with_link (In link (Up sock probed)) now))) (link_kept (In link (Up sock probed)) now)
 
 -- the link where one more waits
-abbrev More_waits : Frame × Weight → Link → LinkState → Link
+abbrev pub More_waits : Frame × Weight → Link → LinkState → Link
 More_waits item link state = record link { state = state; waits = link.waits ++ item ∷ [] }
 
 puts_dialing : (item : Frame × Weight) (link : Link) (sock : ℕ) (now : HostState) → link.state ≡ Dialing sock
@@ -81,11 +81,11 @@ puts_awaiting item link now is = ap (λ (k : LinkState). puts_and_wants item (In
     ∙ ap (λ (z : Link). host.after_steps [] (links.hears (inputs.Want (next_dial now)) z (with_link (More_waits item link AwaitOther) now))) (link_kept (More_waits item link AwaitOther) now)
 
 -- the host that has dialed
-abbrev Dialed : Frame × Weight → Link → HostState → HostState
+abbrev pub Dialed : Frame × Weight → Link → HostState → HostState
 Dialed item link now = with_socket (dialed (next_dial now) link.end link.peer)
     (record (with_link (More_waits item link (Dialing (next_dial now))) (with_link (More_waits item link Idle) now)) { dials = now.dials + 1 })
 
-puts_idle : (item : Frame × Weight) (link : Link) (now : HostState) → link.state ≡ Idle → nat_lt now.dials most_dials ≡ true
+pub puts_idle : (item : Frame × Weight) (link : Link) (now : HostState) → link.state ≡ Idle → nat_lt now.dials most_dials ≡ true
     → puts_and_wants item link now ≡ Ok (steps.Dial (next_dial now) link.end link.peer ∷ [], Dialed item link now)
 unfolding step_of
 puts_idle item link now is room = ap (λ (k : LinkState). puts_and_wants item (In link k) now) is
@@ -203,23 +203,3 @@ module _ (scene : Scene) (x : Side) (cell : Cell × ℕ) (item : Frame × Weight
     by_state : (((own : ℕ) × ((link_of scene x).state ≡ Dialing own)) ⊎ ((link_of scene x).state ≡ AwaitOther)) → IsSeen scene x cell (asks_link scene x item link) []
     by_state (inl dials) = waits_in (Dialing dials.0) dials.1 (puts_dialing item link dials.0 (host_of scene x) (h.renewed.state ∙ dials.1))
     by_state (inr is) = waits_in AwaitOther is (puts_awaiting item link (host_of scene x) (h.renewed.state ∙ is))
-
--- ---- idle
-
-between_names : (party : Side → Party) (x : Side) (number : ℕ) → is_between (party Lesser).name (party Greater).name (record { from = (party x).name; to = (party (other x)).name; number = number }) ≡ true
-between_names party Lesser number = ap (λ b. (b && bytes_eq (party Greater).name (party Greater).name) || (bytes_eq (party Lesser).name (party Greater).name && bytes_eq (party Greater).name (party Lesser).name)) (equal_bytes (party Lesser).name)
-    ∙ ap (λ b. b || (bytes_eq (party Lesser).name (party Greater).name && bytes_eq (party Greater).name (party Lesser).name)) (equal_bytes (party Greater).name)
-between_names party Greater number = ap (λ b. (bytes_eq (party Greater).name (party Lesser).name && bytes_eq (party Lesser).name (party Greater).name) || (b && bytes_eq (party Lesser).name (party Lesser).name)) (equal_bytes (party Greater).name)
-    ∙ ap (λ b. (bytes_eq (party Greater).name (party Lesser).name && bytes_eq (party Lesser).name (party Greater).name) || b) (equal_bytes (party Lesser).name)
-    ∙ or_true (bytes_eq (party Greater).name (party Lesser).name && bytes_eq (party Lesser).name (party Greater).name) where
-  or_true : (b : Bool) → (b || true) ≡ true
-  or_true true = refl
-  or_true false = refl
-
-opened_by : (party : Side → Party) (x : Side) → bytes_eq (party Greater).name (party Lesser).name ≡ false → (if bytes_eq (party x).name (party Lesser).name then Lesser else Greater) ≡ x
-opened_by party Lesser apart = ap (λ b. if b then Lesser else Greater) (equal_bytes (party Lesser).name)
-opened_by party Greater apart = ap (λ b. if b then Lesser else Greater) apart
-
-dialed_once : (v : Pair) (x : Side) (i : ℕ) → v.link x ≡ Idle → after (Want x i) v ≡ point x (Dialing i) (put i (fresh x) v)
-unfolding step_of
-dialed_once v x i is = ap (λ (k : LinkState). obeys x k i (step_of k (inputs.Want i) (is_greater x)) v) is

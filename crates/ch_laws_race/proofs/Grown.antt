@@ -90,6 +90,25 @@ pub none_past : {X : Type 0} (xs : List X) → slice_get xs (length xs) ≡ None
 none_past [] = refl
 none_past (x ∷ xs) = none_past xs
 
+-- ---- a reader elsewhere
+
+-- a host's change of one record is no other end's
+pub reader_off : (hosts : ℕ → HostState) (p number : ℕ) (now : HostState) → ((m : ℕ) → (number == m) ≡ false → find (is_socket m) now.sockets ≡ find (is_socket m) (hosts p).sockets)
+    → (first : Expected) (end : WorldEnd) → is_end_of p number end ≡ false → reader_at (at_place p now hosts) first end ≡ reader_at hosts first end
+reader_off hosts p number now same first end off = ap (reader_of first) (record_same end.cell end.number off) where
+  turned : (a b : ℕ) → (a == b) ≡ false → (b == a) ≡ false
+  turned a b h = grind (arith, nat_tests)
+
+  differs : (c m : ℕ) → ((c == p) && (m == number)) ≡ false → p ≡ c → (number == m) ≡ false
+  differs c m off is = turned m number (ap (λ b. b && (m == number)) (sym (ap (λ (z : ℕ). z == p) (sym is) ∙ equal_numbers p)) ∙ off)
+
+  record_same : (c m : Option ℕ) → (same_number c p && same_number m number) ≡ false → record_of (at_place p now hosts) c m ≡ record_of hosts c m
+  record_same None m off = refl
+  record_same (Some c) None off = refl
+  record_same (Some c) (Some m) off = by_test (nat_eq c p)
+      (λ h. ap (λ b. find (is_socket m) (cond b now (hosts c)).sockets) h ∙ same m (differs c m off (same_place p c h)) ∙ ap (λ (z : ℕ). find (is_socket m) (hosts z).sockets) (same_place p c h))
+      (λ h. ap (λ b. find (is_socket m) (cond b now (hosts c)).sockets) h)
+
 -- ---- what is seen
 
 module _ (party : Side → Party) (x : Side) (hosts : ℕ → HostState) (now : HostState) (xs : List WorldSocket) (quiet : Bool) (state : LinkState)

@@ -18,3 +18,5 @@ pub mod ProbesThere
 pub mod Over
 pub mod Grown
 pub mod Asks
+pub mod Dials
+pub mod Joined

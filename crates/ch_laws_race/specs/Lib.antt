@@ -7,3 +7,4 @@ pub mod Answers
 pub mod Requests
 pub mod Ends
 pub mod Asks
+pub mod Arrivals

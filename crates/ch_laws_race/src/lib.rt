@@ -4,9 +4,11 @@
 //! machine with its laws.
 #![tactic(auto)]
 
-ghost use Rattle.std.specs.Prelude.{ℕ, Bool, List, [], ◌∷◌};
+ghost use Rattle.std.specs.Prelude.{ℕ, Bool, List, [], ◌∷◌, length};
 ghost use Rattle.ch_model.specs.declared.name.End.{End};
-ghost use Rattle.ch_model.specs.HostState.{Socket};
+ghost use Rattle.ch_model.specs.HostState.{Link, Socket};
+ghost use Rattle.ch_model.specs.declared.step.Weight.{Weight};
+ghost use Rattle.ch_wire.specs.declared.frame.Frame.{Frame};
 ghost use Rattle.ch_model.specs.WorldState.{Cell, WorldSocket};
 ghost use Rattle.ch_race.specs.Pair.{Side, Lesser, Greater};
 ghost use Rattle.ch_laws_race.specs.Scene.{Scene};
@@ -15,9 +17,11 @@ ghost use Rattle.ch_laws_race.specs.Frames.{ReadsProbe, ReadsAck, ReadsClosed, R
 ghost use Rattle.ch_light.specs.declared.Connection.{Connection};
 ghost use Rattle.ch_laws_race.specs.Answers.{ReadsAnswer, ReadsAccepted, reads_and_says};
 ghost use Rattle.ch_laws_race.specs.Requests.{ReadsWhileShut, ReadsWhileFree, ReadsWhileDialing, ReadsWhileLesserDials, ReadsWhileUp, ReadsWhileProbed, accepts_and_says};
+ghost use Rattle.ch_laws_race.specs.Asks.{AsksUp, AsksWaiting, AsksIdle, asks_link};
+ghost use Rattle.ch_laws_race.specs.Arrivals.{IsSeenFrom, Joins, joined_in, hears_joined, Comes, accepting, come_in, hears_come};
 ghost use Rattle.ch_laws_race.specs.Ends.{InputEndsUp, InputEndsDialing, InputEndsUnnamed, end_at, input_ends};
 ghost use Rattle.ch_laws_race.specs.Scene.{link_of};
-ghost use Rattle.ch_race.specs.Moves.{Read_o, Read_t};
+ghost use Rattle.ch_race.specs.Moves.{Read_o, Read_t, Say, Want, Join, Come};
 ghost use Rattle.ch_wire.specs.declared.answer.Answer.TheVariants.{Crossed, Invalid};
 
 /// A probe that is read on the socket that the link is up on is acknowledged there, at either end.
@@ -126,4 +130,27 @@ pub fn input_ends_while_dialing()
 pub fn input_ends_elsewhere()
     ensures { (scene : Scene) (x : Side) (cell : Cell × ℕ) (e : End) (i : ℕ) (socket : WorldSocket) (known : Socket) → InputEndsUnnamed scene x cell e i socket known
         → IsSeen scene x cell (input_ends scene x known) (end_at e i ∷ []) }
+{}
+
+/// A frame of a connection that is put while the link is up is written at once: the node says a payload.
+pub fn frame_is_said()
+    ensures { (scene : Scene) (x : Side) (cell : Cell × ℕ) (e : End) (i : ℕ) (socket : WorldSocket) (known : Socket) (item : Frame × Weight) (link : Link) (probed : Bool) → AsksUp scene x cell e i socket known item link probed
+        → IsSeen scene x cell (asks_link scene x item link) (Say x ∷ []) }
+{}
+
+/// A frame that is put while the link dials or awaits the other waits, and nothing is seen.
+pub fn frame_waits()
+    ensures { (scene : Scene) (x : Side) (cell : Cell × ℕ) (item : Frame × Weight) (link : Link) → AsksWaiting scene x cell link → IsSeen scene x cell (asks_link scene x item link) [] }
+{}
+
+/// A frame that is put while the link is idle waits, and the node dials the world's next socket.
+pub fn link_dials()
+    ensures { (scene : Scene) (x : Side) (cell : Cell × ℕ) (item : Frame × Weight) (link : Link) → AsksIdle scene x cell link
+        → IsSeen scene x cell (asks_link scene x item link) (Want x (length scene.world.sockets) ∷ []) }
+{}
+
+/// A socket that its opener has joined is open at that end, and the request is written.
+pub fn socket_joins()
+    ensures { (scene : Scene) (x : Side) (cell : Cell × ℕ) (i : ℕ) (socket : WorldSocket) (known : Socket) → Joins scene x cell i socket known
+        → IsSeenFrom scene x cell (joined_in scene socket) (hears_joined scene x known) (Join i ∷ []) }
 {}
