@@ -1,0 +1,8 @@
+use Rattle.std.proofs.Common.{refl}
+use Rattle.ch_wire.specs.declared.frame.Frame.TheVariants as frames
+use Rattle.ch_reader.specs.declared.item.Item.TheVariants as items
+use Rattle.ch_laws_race.proofs.Read.{open_read}
+use Rattle.ch_laws_race.proofs.opening_is_read.Goals as goal
+
+pub returns : goal.returns
+returns z = λ scene x cell e i s known id created h. open_read scene x cell e i s known (items.Frame (frames.Created id)) h.acts h.reads id created refl h.user h.creates h.grows

@@ -1,0 +1,156 @@
+//! The race for one socket in a whole world: what two of its nodes and their hosts do, as moves of ch_race's pair.
+//!
+//! No code: definitions of the view, and laws as clauses of empty functions. The whole model stands below, and the
+//! machine with its laws.
+#![tactic(auto)]
+
+ghost use Rattle.std.specs.Prelude.{ℕ, Bool, List, [], ◌∷◌, length};
+ghost use Rattle.ch_model.specs.declared.name.End.{End};
+ghost use Rattle.ch_model.specs.HostState.{Link, Socket};
+ghost use Rattle.ch_model.specs.declared.step.Weight.{Weight};
+ghost use Rattle.ch_wire.specs.declared.frame.Frame.{Frame};
+ghost use Rattle.ch_model.specs.WorldState.{Cell, WorldSocket};
+ghost use Rattle.ch_race.specs.Pair.{Side, Lesser, Greater};
+ghost use Rattle.ch_laws_race.specs.Scene.{Scene};
+ghost use Rattle.ch_laws_race.specs.Reading.{IsSeen, read_at, reads_front};
+ghost use Rattle.ch_laws_race.specs.Frames.{ReadsProbe, ReadsAck, ReadsClosed, ReadsPayload, ReadsClose, ReadsOpen};
+ghost use Rattle.ch_light.specs.declared.Connection.{Connection};
+ghost use Rattle.ch_laws_race.specs.Answers.{ReadsAnswer, ReadsAccepted, reads_and_says};
+ghost use Rattle.ch_laws_race.specs.Requests.{ReadsWhileShut, ReadsWhileFree, ReadsWhileDialing, ReadsWhileLesserDials, ReadsWhileUp, ReadsWhileProbed, accepts_and_says};
+ghost use Rattle.ch_laws_race.specs.Asks.{AsksUp, AsksWaiting, AsksIdle, asks_link};
+ghost use Rattle.ch_laws_race.specs.Arrivals.{IsSeenFrom, Joins, joined_in, hears_joined, Comes, accepting, come_in, hears_come};
+ghost use Rattle.ch_laws_race.specs.Ends.{InputEndsUp, InputEndsDialing, InputEndsUnnamed, end_at, input_ends};
+ghost use Rattle.ch_laws_race.specs.Scene.{link_of};
+ghost use Rattle.ch_race.specs.Moves.{Read_o, Read_t, Say, Want, Join, Come};
+ghost use Rattle.ch_wire.specs.declared.answer.Answer.TheVariants.{Crossed, Invalid};
+
+/// A probe that is read on the socket that the link is up on is acknowledged there, at either end.
+pub fn probe_is_read()
+    ensures { (scene : Scene) (x : Side) (cell : Cell × ℕ) (e : End) (i : ℕ) (socket : WorldSocket) (known : Socket) (probed : Bool) → ReadsProbe scene x cell e i socket known probed
+        → IsSeen scene x cell (reads_front scene x known) (read_at e i ∷ []) }
+{}
+
+/// An acknowledgement that is read there ends that the link is probed.
+pub fn acknowledgement_is_read()
+    ensures { (scene : Scene) (x : Side) (cell : Cell × ℕ) (e : End) (i : ℕ) (socket : WorldSocket) (known : Socket) (probed : Bool) → ReadsAck scene x cell e i socket known probed
+        → IsSeen scene x cell (reads_front scene x known) (read_at e i ∷ []) }
+{}
+
+/// That the other's endpoint closed, read on the socket that the link is up on, ends this end, and the link fails.
+pub fn closing_is_read()
+    ensures { (scene : Scene) (x : Side) (cell : Cell × ℕ) (e : End) (i : ℕ) (socket : WorldSocket) (known : Socket) (probed : Bool) → ReadsClosed scene x cell e i socket known probed
+        → IsSeen scene x cell (reads_front scene x known) (read_at e i ∷ []) }
+{}
+
+/// An acceptance that is read on the socket that the link dials brings the link up, and what waits is said there.
+pub fn acceptance_is_read()
+    ensures { (scene : Scene) (x : Side) (cell : Cell × ℕ) (i : ℕ) (socket : WorldSocket) (known : Socket) → ReadsAccepted scene x cell i socket known
+        → IsSeen scene x cell (reads_front scene x known) (reads_and_says x i (link_of scene x).waits) }
+{}
+
+/// "Crossed" that is read there ends this end, and the link awaits the other's request.
+pub fn crossing_is_read()
+    ensures { (scene : Scene) (x : Side) (cell : Cell × ℕ) (i : ℕ) (socket : WorldSocket) (known : Socket) → ReadsAnswer scene x cell i socket known Crossed
+        → IsSeen scene x cell (reads_front scene x known) (Read_o i ∷ []) }
+{}
+
+/// "Invalid" that is read there ends this end, and the link fails.
+pub fn refusal_is_read()
+    ensures { (scene : Scene) (x : Side) (cell : Cell × ℕ) (i : ℕ) (socket : WorldSocket) (known : Socket) → ReadsAnswer scene x cell i socket known Invalid
+        → IsSeen scene x cell (reads_front scene x known) (Read_o i ∷ []) }
+{}
+
+/// A request that a node reads which is shut is answered "invalid", and its socket's end is ended; the link stays.
+pub fn request_while_shut()
+    ensures { (scene : Scene) (x : Side) (cell : Cell × ℕ) (i : ℕ) (socket : WorldSocket) (known : Socket) → ReadsWhileShut scene x cell i socket known
+        → IsSeen scene x cell (reads_front scene x known) (Read_t i ∷ []) }
+{}
+
+/// A request that a node reads which dials nothing and isn't up is accepted: the link is up there, and what waits is said.
+pub fn request_while_free()
+    ensures { (scene : Scene) (x : Side) (cell : Cell × ℕ) (i : ℕ) (socket : WorldSocket) (known : Socket) → ReadsWhileFree scene x cell i socket known
+        → IsSeen scene x cell (reads_front scene x known) (accepts_and_says scene x i) }
+{}
+
+/// A request that the node of the greater address reads while it dials is crossed, and it goes on dialing.
+pub fn request_while_greater_dials()
+    ensures { (scene : Scene) (cell : Cell × ℕ) (i : ℕ) (socket : WorldSocket) (known : Socket) (own : ℕ) → ReadsWhileDialing scene cell i socket known own
+        → IsSeen scene Greater cell (reads_front scene Greater known) (Read_t i ∷ []) }
+{}
+
+/// A request that a node reads while it is up and probed is crossed, and nothing more.
+pub fn request_while_probed()
+    ensures { (scene : Scene) (x : Side) (cell : Cell × ℕ) (i : ℕ) (socket : WorldSocket) (known : Socket) (up : ℕ) → ReadsWhileProbed scene x cell i socket known up
+        → IsSeen scene x cell (reads_front scene x known) (Read_t i ∷ []) }
+{}
+
+/// A request that the node of the lesser address reads while it dials is accepted, and it leaves its own dial.
+pub fn request_while_lesser_dials()
+    ensures { (scene : Scene) (cell : Cell × ℕ) (i : ℕ) (socket : WorldSocket) (known : Socket) (j : ℕ) (dialed : WorldSocket) (own : Socket) → ReadsWhileLesserDials scene cell i socket known j dialed own
+        → IsSeen scene Lesser cell (reads_front scene Lesser known) (accepts_and_says scene Lesser i) }
+{}
+
+/// A request that a node reads while it is up on another socket, and isn't probed, is crossed; it writes a probe there.
+pub fn request_while_up()
+    ensures { (scene : Scene) (x : Side) (cell : Cell × ℕ) (i : ℕ) (socket : WorldSocket) (known : Socket) (e : End) (j : ℕ) (standing : WorldSocket) (up : Socket) → ReadsWhileUp scene x cell i socket known e j standing up
+        → IsSeen scene x cell (reads_front scene x known) (Read_t i ∷ []) }
+{}
+
+/// A payload that is read on an open connection is told to the node, and nothing else changes at the sockets.
+pub fn payload_is_read()
+    ensures { (scene : Scene) (x : Side) (cell : Cell × ℕ) (e : End) (i : ℕ) (socket : WorldSocket) (known : Socket) (id : ℕ) (payload : List ℕ) (conn : ℕ) → ReadsPayload scene x cell e i socket known id payload conn
+        → IsSeen scene x cell (reads_front scene x known) (read_at e i ∷ []) }
+{}
+
+/// That a connection is closed, which was open, likewise.
+pub fn close_is_read()
+    ensures { (scene : Scene) (x : Side) (cell : Cell × ℕ) (e : End) (i : ℕ) (socket : WorldSocket) (known : Socket) (id : ℕ) (left : ℕ × List Connection) → ReadsClose scene x cell e i socket known id left
+        → IsSeen scene x cell (reads_front scene x known) (read_at e i ∷ []) }
+{}
+
+/// That a connection is opened under the next id likewise.
+pub fn opening_is_read()
+    ensures { (scene : Scene) (x : Side) (cell : Cell × ℕ) (e : End) (i : ℕ) (socket : WorldSocket) (known : Socket) (id : ℕ) (created : List Connection) → ReadsOpen scene x cell e i socket known id created
+        → IsSeen scene x cell (reads_front scene x known) (read_at e i ∷ []) }
+{}
+
+/// The end of input on the socket that the link is up on ends this end, and the link fails.
+pub fn input_ends_while_up()
+    ensures { (scene : Scene) (x : Side) (cell : Cell × ℕ) (e : End) (i : ℕ) (socket : WorldSocket) (known : Socket) (probed : Bool) → InputEndsUp scene x cell e i socket known probed
+        → IsSeen scene x cell (input_ends scene x known) (end_at e i ∷ []) }
+{}
+
+/// The same on the socket that the link dials.
+pub fn input_ends_while_dialing()
+    ensures { (scene : Scene) (x : Side) (cell : Cell × ℕ) (e : End) (i : ℕ) (socket : WorldSocket) (known : Socket) → InputEndsDialing scene x cell e i socket known
+        → IsSeen scene x cell (input_ends scene x known) (end_at e i ∷ []) }
+{}
+
+/// The end of input on a socket that the link doesn't name ends this end, and nothing else.
+pub fn input_ends_elsewhere()
+    ensures { (scene : Scene) (x : Side) (cell : Cell × ℕ) (e : End) (i : ℕ) (socket : WorldSocket) (known : Socket) → InputEndsUnnamed scene x cell e i socket known
+        → IsSeen scene x cell (input_ends scene x known) (end_at e i ∷ []) }
+{}
+
+/// A frame of a connection that is put while the link is up is written at once: the node says a payload.
+pub fn frame_is_said()
+    ensures { (scene : Scene) (x : Side) (cell : Cell × ℕ) (e : End) (i : ℕ) (socket : WorldSocket) (known : Socket) (item : Frame × Weight) (link : Link) (probed : Bool) → AsksUp scene x cell e i socket known item link probed
+        → IsSeen scene x cell (asks_link scene x item link) (Say x ∷ []) }
+{}
+
+/// A frame that is put while the link dials or awaits the other waits, and nothing is seen.
+pub fn frame_waits()
+    ensures { (scene : Scene) (x : Side) (cell : Cell × ℕ) (item : Frame × Weight) (link : Link) → AsksWaiting scene x cell link → IsSeen scene x cell (asks_link scene x item link) [] }
+{}
+
+/// A frame that is put while the link is idle waits, and the node dials the world's next socket.
+pub fn link_dials()
+    ensures { (scene : Scene) (x : Side) (cell : Cell × ℕ) (item : Frame × Weight) (link : Link) → AsksIdle scene x cell link
+        → IsSeen scene x cell (asks_link scene x item link) (Want x (length scene.world.sockets) ∷ []) }
+{}
+
+/// A socket that its opener has joined is open at that end, and the request is written.
+pub fn socket_joins()
+    ensures { (scene : Scene) (x : Side) (cell : Cell × ℕ) (i : ℕ) (socket : WorldSocket) (known : Socket) → Joins scene x cell i socket known
+        → IsSeenFrom scene x cell (joined_in scene socket) (hears_joined scene x known) (Join i ∷ []) }
+{}
