@@ -10,3 +10,11 @@ pub mod Losses
 pub mod Rows
 pub mod Falls
 pub mod Reconnects
+pub mod UpSends
+pub mod UpFirstSends
+pub mod UpReconnects
+pub mod Rises
+pub mod Closings
+pub mod Arrivals
+pub mod Drops
+pub mod Standings
