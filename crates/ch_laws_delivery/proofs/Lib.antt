@@ -23,3 +23,10 @@ pub mod Reconnecting
 pub mod Reconnects
 pub mod Rises
 pub mod Stands
+pub mod Bares
+pub mod Quiets
+pub mod Results
+pub mod OwnMail
+pub mod Tells
+pub mod Overs
+pub mod Farewells

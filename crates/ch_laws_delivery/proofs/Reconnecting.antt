@@ -1,4 +1,4 @@
--- What a node does that reconnects a pair with an open connection, and what is seen of the pair then.
+-- What a node does that reconnects a pair, and what is seen of the pair then.
 use Rattle.std.specs.Prelude.{◌≡◌, ℕ, suc, ◌+◌, false, List, [], ◌∷◌, ◌++◌, map, slice_get, option_to_list, Option, Some, Result, Ok}
 use Rattle.std.proofs.Common.{refl, ap, sym, ◌∙◌, arith}
 use Rattle.ch_base.specs.declared.memory.Stop.{Stop}
@@ -23,18 +23,22 @@ use Rattle.ch_laws_delivery.proofs.Pairs.{one_by, one_to, own_pair, read_at}
 
 -- ---- the node
 
-pub reconnects_it : (n : NodeState) (pair : Pair) (conn : ℕ) → growing pair.epoch ≡ Ok pair.epoch → pair.mark ≡ nodes.Opened conn
-    → reconnect n pair ≡ Ok (acts.Note (notes.Again (process_id n pair.by) pair.to (pair.epoch + 1)) ∷ acts.Close conn ∷ [], keeping n (next_of pair))
+pub reconnects_it : (n : NodeState) (pair : Pair) → growing pair.epoch ≡ Ok pair.epoch
+    → reconnect n pair ≡ Ok (acts.Note (notes.Again (process_id n pair.by) pair.to (pair.epoch + 1)) ∷ map (λ conn. acts.Close conn) (option_to_list (conn_of pair.mark)), keeping n (next_of pair))
 unfolding reconnect next_epoch
-reconnects_it n pair conn grows opened =
-    ap (λ (r : Result ℕ Stop). (r >>= (λ epoch. Ok (record pair { epoch = epoch + 1; index = 0; mark = nodes.Unopened })))
+reconnects_it n pair grows = ap (λ (r : Result ℕ Stop). (r >>= (λ epoch. Ok (record pair { epoch = epoch + 1; index = 0; mark = nodes.Unopened })))
     >>= (λ next. doing (acts.Note (notes.Again (process_id n pair.by) pair.to next.epoch) ∷ map (λ conn. acts.Close conn) (option_to_list (conn_of pair.mark))) (keeping n next))) grows
-    ∙ ap (λ (m : nodes.Mark). doing (acts.Note (notes.Again (process_id n pair.by) pair.to (pair.epoch + 1)) ∷ map (λ conn. acts.Close conn) (option_to_list (conn_of m))) (keeping n (next_of pair))) opened
+
+-- by its mark
+pub reconnects_as : (n : NodeState) (pair : Pair) (mark : nodes.Mark) → growing pair.epoch ≡ Ok pair.epoch → pair.mark ≡ mark
+    → reconnect n pair ≡ Ok (acts.Note (notes.Again (process_id n pair.by) pair.to (pair.epoch + 1)) ∷ map (λ conn. acts.Close conn) (option_to_list (conn_of mark)), keeping n (next_of pair))
+reconnects_as n pair mark grows is = reconnects_it n pair grows
+    ∙ ap (λ (m : nodes.Mark). Ok (acts.Note (notes.Again (process_id n pair.by) pair.to (pair.epoch + 1)) ∷ map (λ conn. acts.Close conn) (option_to_list (conn_of m)), keeping n (next_of pair))) is
 
 -- ---- the pair
 
-module _ (names : List Name) (apart : AreApart names) (scene : Scene) (c : ℕ) (name : Name) (conn : ℕ) (known : slice_get names c ≡ Some name) (lives : has_ended scene.from.node name.by ≡ false)
-    (opened : (pair_at scene.from.node name).mark ≡ nodes.Opened conn) where
+module _ (names : List Name) (apart : AreApart names) (scene : Scene) (c : ℕ) (name : Name) (mark : nodes.Mark) (known : slice_get names c ≡ Some name) (lives : has_ended scene.from.node name.by ≡ false)
+    (is : (pair_at scene.from.node name).mark ≡ mark) where
   abbrev N : NodeState
   N = scene.from.node
 
@@ -62,8 +66,8 @@ module _ (names : List Name) (apart : AreApart names) (scene : Scene) (c : ℕ) 
   Told = noted (Again c (suc (V.epoch c))) (marked c Unopened (suc (V.epoch c)) 0 V)
 
   -- the passage's move, by its mark
-  pub moved : after (Reconnect c) V ≡ written V.up Items Told
-  moved = ap (λ (m : Mark). moves.reconnect m c V) (ap (mark_of N) known ∙ ap (λ b. mark_as b P.mark) lives ∙ ap bare opened)
+  pub moved : after (Reconnect c) V ≡ moves.reconnect (bare mark) c V
+  moved = ap (λ (m : Mark). moves.reconnect m c V) (ap (mark_of N) known ∙ ap (λ b. mark_as b P.mark) lives ∙ ap bare is)
 
   by_is : (next_of P).by ≡ name.by
   by_is = one_by names apart N c name known

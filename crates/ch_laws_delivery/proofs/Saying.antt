@@ -1,4 +1,4 @@
--- What a node does that says one message more on an open connection, and what is seen of its pair then.
+-- What a node does that says one message more of an epoch, and what is seen of its pair then.
 use Rattle.std.specs.Prelude.{◌≡◌, ℕ, suc, ◌+◌, false, List, [], ◌∷◌, ◌++◌, slice_get, Option, Some, Result, Ok, if◌then◌else◌}
 use Rattle.std.proofs.Common.{refl, ap, sym, ◌∙◌, arith}
 use Rattle.ch_base.specs.declared.memory.Stop.{Stop}
@@ -36,8 +36,8 @@ says_it n pair said conn grows opened away =
 
 -- ---- the pair
 
-module _ (names : List Name) (apart : AreApart names) (scene : Scene) (c : ℕ) (name : Name) (conn : ℕ) (known : slice_get names c ≡ Some name) (lives : has_ended scene.from.node name.by ≡ false)
-    (opened : (pair_at scene.from.node name).mark ≡ nodes.Opened conn) where
+module _ (names : List Name) (apart : AreApart names) (scene : Scene) (c : ℕ) (name : Name) (mark : nodes.Mark) (known : slice_get names c ≡ Some name) (lives : has_ended scene.from.node name.by ≡ false)
+    (is : (pair_at scene.from.node name).mark ≡ mark) where
   abbrev N : NodeState
   N = scene.from.node
 
@@ -53,8 +53,8 @@ module _ (names : List Name) (apart : AreApart names) (scene : Scene) (c : ℕ) 
   pub index_is : V.index c ≡ P.index
   index_is = ap (index_of N) known
 
-  mark_is : V.mark c ≡ Opened
-  mark_is = ap (mark_of N) known ∙ ap (λ b. mark_as b P.mark) lives ∙ ap bare opened
+  mark_is : V.mark c ≡ bare mark
+  mark_is = ap (mark_of N) known ∙ ap (λ b. mark_as b P.mark) lives ∙ ap bare is
 
   -- what is said
   abbrev pub Items : List Item
@@ -62,10 +62,10 @@ module _ (names : List Name) (apart : AreApart names) (scene : Scene) (c : ℕ) 
 
   -- the passage that tells it, and hasn't written it
   abbrev pub Told : Passage
-  Told = noted (Said c (V.epoch c) (V.index c)) (marked c Opened (V.epoch c) (suc (V.index c)) V)
+  Told = noted (Said c (V.epoch c) (V.index c)) (marked c (bare mark) (V.epoch c) (suc (V.index c)) V)
 
   -- the passage's move, by its mark
-  pub moved : after (Say c) V ≡ written V.up Items Told
+  pub moved : after (Say c) V ≡ moves.say (bare mark) c V
   moved = ap (λ (m : Mark). moves.say m c V) mark_is
 
   by_is : (with_said P).by ≡ name.by
@@ -77,9 +77,9 @@ module _ (names : List Name) (apart : AreApart names) (scene : Scene) (c : ℕ) 
   now_own : pair_at (keeping N (with_said P)) name ≡ with_said P
   now_own = own_pair names apart N c name known (with_said P) by_is to_is
 
-  pub marks : (d : ℕ) → mark_of (keeping N (with_said P)) (slice_get names d) ≡ put c Opened V.mark d
-  marks = read_at names apart N c name known (with_said P) by_is to_is mark_of Opened
-      (ap (λ (z : Pair). mark_as (has_ended N name.by) z.mark) now_own ∙ ap (λ b. mark_as b P.mark) lives ∙ ap bare opened) refl
+  pub marks : (d : ℕ) → mark_of (keeping N (with_said P)) (slice_get names d) ≡ put c (bare mark) V.mark d
+  marks = read_at names apart N c name known (with_said P) by_is to_is mark_of (bare mark)
+      (ap (λ (z : Pair). mark_as (has_ended N name.by) z.mark) now_own ∙ ap (λ b. mark_as b P.mark) lives ∙ ap bare is) refl
       (λ other same. ap (λ (z : Pair). mark_as (has_ended N other.by) z.mark) same)
 
   pub epochs : (d : ℕ) → epoch_of (keeping N (with_said P)) (slice_get names d) ≡ put c (V.epoch c) V.epoch d

@@ -8,6 +8,7 @@ use Rattle.ch_wire.specs.declared.frame.Frame.TheVariants as frames
 use Rattle.ch_model.specs.HostState.{Link}
 use Rattle.ch_model.specs.HostSteps.{link_with}
 use Rattle.ch_model.specs.HostWrites.{is_up, said_of}
+use Rattle.ch_model.specs.NodeState as nodes
 use Rattle.ch_model.specs.NodeState.{NodeState, Pair}
 use Rattle.ch_model.specs.NodeIds.{is_here, target_at}
 use Rattle.ch_model.specs.NodeSends.{payload_of}
@@ -41,27 +42,27 @@ module _ (names : List Name) (apart : AreApart names) (scene : Scene) (c : ℕ) 
       ap (λ (z : ℕ). link_with taken.now z scene.from.peer) (sym key.0) ∙ ap (λ z. link_with taken.now (link_of scene.from).end z) (sym key.1)
 
   abbrev Word : List Item
-  Word = Items names apart scene c name conn h.known h.lives h.opened
+  Word = Items names apart scene c name (nodes.Opened conn) h.known h.lives h.opened
 
   abbrev Then : Passage
-  Then = Told names apart scene c name conn h.known h.lives h.opened
+  Then = Told names apart scene c name (nodes.Opened conn) h.known h.lives h.opened
 
   waiting : items_of scene.given (link_with taken.now scene.from.end scene.from.peer).waits ≡ V.waits ++ Word
   waiting = ap (λ (l : Link). items_of scene.given l.waits) link_now ∙ ap (λ (l : Link). items_of scene.given l.waits) taken.kept
       ∙ flat_map-append (λ item. items_in scene.given item.0 (said_of item.1)) (link_of scene.from).waits ((frames.Data id (payload_of P.to said), weight_at P) ∷ [])
-      ∙ ap (λ (z : List Item). V.waits ++ z) (one_item names apart scene c name conn h.known h.lives h.opened id said h.used)
+      ∙ ap (λ (z : List Item). V.waits ++ z) (one_item names apart scene c name (nodes.Opened conn) h.known h.lives h.opened id said h.used)
 
   seen_now : view names (said_in scene c P taken.now) ≡ after (Say c) V
-  seen_now = sending_alike (view names (said_in scene c P taken.now)) (written false Word Then) refl (marks names apart scene c name conn h.known h.lives h.opened) (epochs names apart scene c name conn h.known h.lives h.opened)
-      (indexes names apart scene c name conn h.known h.lives h.opened) waiting
-      (ap (λ (l : Link). is_up l.state) (link_now ∙ taken.kept) ∙ taken.down ∙ sym h.down) refl refl refl refl (λ d e. refl) (λ d. refl) (entry_is names apart scene c name conn h.known h.lives h.opened)
-      ∙ sym (moved names apart scene c name conn h.known h.lives h.opened ∙ ap (λ b. written b Word Then) h.down)
+  seen_now = sending_alike (view names (said_in scene c P taken.now)) (written false Word Then) refl (marks names apart scene c name (nodes.Opened conn) h.known h.lives h.opened) (epochs names apart scene c name (nodes.Opened conn) h.known h.lives h.opened)
+      (indexes names apart scene c name (nodes.Opened conn) h.known h.lives h.opened) waiting
+      (ap (λ (l : Link). is_up l.state) (link_now ∙ taken.kept) ∙ taken.down ∙ sym h.down) refl refl refl refl (λ d e. refl) (λ d. refl) (entry_is names apart scene c name (nodes.Opened conn) h.known h.lives h.opened)
+      ∙ sym (moved names apart scene c name (nodes.Opened conn) h.known h.lives h.opened ∙ ap (λ b. written b Word Then) h.down)
 
   pub is_said : IsSaid names scene c name conn said
   is_said = record {
     steps = taken.done;
     host = taken.now;
-    node_says = says_it N P said conn h.grows h.opened (ap (λ (z : Target). is_here N (target_at z)) (to_is names apart scene c name conn h.known h.lives h.opened) ∙ h.away);
+    node_says = says_it N P said conn h.grows h.opened (ap (λ (z : Target). is_here N (target_at z)) (to_is names apart scene c name (nodes.Opened conn) h.known h.lives h.opened) ∙ h.away);
     host_takes = sends scene.from.host scene.from.end conn (payload_of P.to said) (weight_at P) (link_of scene.from) id h.carried h.short h.room h.given ∙ taken.did;
     seen = seen_now;
   }

@@ -10,6 +10,7 @@ use Rattle.ch_model.specs.HostState.{Link}
 use Rattle.ch_model.specs.HostSteps.{link_with}
 use Rattle.ch_model.specs.HostWrites.{is_up, counted_in}
 use Rattle.ch_model.specs.HostCalls.{most_waiting, has_room}
+use Rattle.ch_model.specs.NodeState as nodes
 use Rattle.ch_model.specs.NodeState.{NodeState, Pair}
 use Rattle.ch_model.specs.NodeIds.{is_here, target_at}
 use Rattle.ch_model.specs.NodeSends.{payload_of}
@@ -51,23 +52,23 @@ module _ (names : List Name) (apart : AreApart names) (scene : Scene) (c : ℕ) 
   roomy = ap (λ (s : LinkState). if not (is_up s) && nat_le most_waiting (counted_in L) then Err QueueFull else Ok L) h.up
 
   abbrev Word : List Item
-  Word = Items names apart scene c name conn h.known h.lives h.opened
+  Word = Items names apart scene c name (nodes.Opened conn) h.known h.lives h.opened
 
   abbrev Then : Passage
-  Then = Told names apart scene c name conn h.known h.lives h.opened
+  Then = Told names apart scene c name (nodes.Opened conn) h.known h.lives h.opened
 
   seen_now : view names (written_in scene c P id said wrote.now) ≡ after (Say c) V
-  seen_now = sending_alike (view names (written_in scene c P id said wrote.now)) (written true Word Then) refl (marks names apart scene c name conn h.known h.lives h.opened)
-      (epochs names apart scene c name conn h.known h.lives h.opened) (indexes names apart scene c name conn h.known h.lives h.opened)
+  seen_now = sending_alike (view names (written_in scene c P id said wrote.now)) (written true Word Then) refl (marks names apart scene c name (nodes.Opened conn) h.known h.lives h.opened)
+      (epochs names apart scene c name (nodes.Opened conn) h.known h.lives h.opened) (indexes names apart scene c name (nodes.Opened conn) h.known h.lives h.opened)
       (ap (λ (l : Link). items_of scene.given l.waits) link_now) (ap (λ (l : Link). is_up l.state) link_now) refl
-      (ap (λ (z : List Item). put scene.way.on (onto (scene.way.cut scene.way.on) (scene.way.flight scene.way.on) z) scene.way.flight) (one_item names apart scene c name conn h.known h.lives h.opened id said h.used))
-      refl refl (λ d e. refl) (λ d. refl) (entry_is names apart scene c name conn h.known h.lives h.opened)
-      ∙ sym (moved names apart scene c name conn h.known h.lives h.opened ∙ ap (λ (s : LinkState). written (is_up s) Word Then) h.up)
+      (ap (λ (z : List Item). put scene.way.on (onto (scene.way.cut scene.way.on) (scene.way.flight scene.way.on) z) scene.way.flight) (one_item names apart scene c name (nodes.Opened conn) h.known h.lives h.opened id said h.used))
+      refl refl (λ d e. refl) (λ d. refl) (entry_is names apart scene c name (nodes.Opened conn) h.known h.lives h.opened)
+      ∙ sym (moved names apart scene c name (nodes.Opened conn) h.known h.lives h.opened ∙ ap (λ (s : LinkState). written (is_up s) Word Then) h.up)
 
   pub is_written : IsWritten names scene c name conn id sock said
   is_written = record {
     host = wrote.now;
-    node_says = says_it N P said conn h.grows h.opened (ap (λ (z : Target). is_here N (target_at z)) (to_is names apart scene c name conn h.known h.lives h.opened) ∙ h.away);
+    node_says = says_it N P said conn h.grows h.opened (ap (λ (z : Target). is_here N (target_at z)) (to_is names apart scene c name (nodes.Opened conn) h.known h.lives h.opened) ∙ h.away);
     host_writes = sends scene.from.host scene.from.end conn (payload_of P.to said) (weight_at P) L id h.carried h.short roomy h.given ∙ wrote.did;
     seen = seen_now;
   }

@@ -18,3 +18,7 @@ pub mod Closings
 pub mod Arrivals
 pub mod Drops
 pub mod Standings
+pub mod ReadingRows
+pub mod Bares
+pub mod Quiets
+pub mod Endings

@@ -2,21 +2,33 @@
 //! move.
 //!
 //! No code: definitions of the view, and laws as clauses of empty functions. The whole model stands below, and the
-//! machine with its laws. So far seven events of a node and its host are shown to be moves, each apart: that a whole line
+//! machine with its laws. What a node and its host do at one event is shown to be a move, event by event: that a whole line
 //! of a world is a run of moves, and that all that is asked here of a scene holds in a world, is open.
 #![tactic(auto)]
 
-ghost use Rattle.std.specs.Prelude.{◌<◌, ℕ, Bool, false, List, [], ◌∷◌, Option};
+ghost use Rattle.std.specs.Prelude.{◌≡◌, ◌<◌, ℕ, Bool, true, false, is_some, List, [], ◌∷◌, Option, Ok};
+ghost use Rattle.ch_base.specs.declared.event.Room.{Room};
+ghost use Rattle.ch_static.specs.declared.command.Command.TheVariants.{Receive, Take, OpenPort};
+ghost use Rattle.ch_model.specs.declared.act.Act.{Act};
+ghost use Rattle.ch_model.specs.declared.note.Origin.{Origin};
+ghost use Rattle.ch_model.specs.Node.{node_command};
+ghost use Rattle.ch_model.specs.NodeLives.{make};
+ghost use Rattle.ch_model.specs.NodeEnds.{over};
+ghost use Rattle.ch_ident.specs.declared.reason.Reason.{Reason};
+ghost use Rattle.ch_mail.specs.Mail.{life_of};
 ghost use Rattle.ch_model.specs.NodeState.{NodeState, Pair};
 ghost use Rattle.ch_ident.specs.declared.identifier.ProcessId.{ProcessId};
 ghost use Rattle.ch_ident.specs.declared.message.Message.{Message};
 ghost use Rattle.ch_laws_delivery.specs.Scene.{Name, Use, Scene};
-ghost use Rattle.ch_laws_delivery.specs.View.{AreApart};
+ghost use Rattle.ch_laws_delivery.specs.View.{view, AreApart};
 ghost use Rattle.ch_laws_delivery.specs.Sends.{SaysOnOpen, IsSaid};
 ghost use Rattle.ch_laws_delivery.specs.FirstSends.{SaysFirst, IsSaidFirst};
 ghost use Rattle.ch_laws_delivery.specs.UpSends.{SaysUp, IsWritten};
 ghost use Rattle.ch_laws_delivery.specs.UpFirstSends.{SaysFirstUp, IsWrittenFirst};
 ghost use Rattle.ch_laws_delivery.specs.UpReconnects.{ReconnectsUp, IsClosed};
+ghost use Rattle.ch_laws_delivery.specs.Bares.{SaysBroken, IsWasted, ReconnectsBare, IsRenewed};
+ghost use Rattle.ch_laws_delivery.specs.Quiets.{Keeps, kept_in};
+ghost use Rattle.ch_laws_delivery.specs.Endings.{Ends, Parting, Parts, IsParted, EndsWith, IsOver};
 ghost use Rattle.ch_laws_delivery.specs.Rises.{ComesUp, IsRisen, IsCome};
 ghost use Rattle.ch_laws_delivery.specs.Losses.{LosesSocket, IsBroken};
 ghost use Rattle.ch_laws_delivery.specs.Falls.{FallsOff, IsFallen};
@@ -34,8 +46,11 @@ ghost use Rattle.ch_link.specs.declared.LinkIn.{LinkIn};
 ghost use Rattle.ch_link.specs.declared.LinkIn.TheVariants.{Asked, Answered};
 ghost use Rattle.ch_link.specs.declared.LinkAnswer.TheVariants.{Accepted};
 ghost use Rattle.ch_link.specs.declared.LinkState.TheVariants.{Dialing, Up};
-ghost use Rattle.ch_model.specs.NodeState.{Unread, Broken};
-ghost use Rattle.ch_laws_delivery.specs.Rows.{the_name, the_names, hello, at_start, up_at_start, open_pair, said_once, up_with, message_item, bound_there, the_opening, the_reading, the_closing};
+ghost use Rattle.ch_model.specs.NodeState.{Unread, Broken, ToNames};
+ghost use Rattle.ch_mail.specs.declared.life.Life.TheVariants.{Live};
+ghost use Rattle.ch_laws_delivery.specs.Receipts.{bound_as};
+ghost use Rattle.ch_laws_delivery.specs.ReadingRows.{up_there, port_there, title, name_there, pair_to, pairs_to, up_to, opening_to, reading_to, arriving_on, over_there};
+ghost use Rattle.ch_laws_delivery.specs.Rows.{here, there, only, the_name, the_names, hello, at_start, up_at_start, open_pair, said_once, up_with, message_item, bound_there, the_opening, the_reading, the_closing};
 
 /// A message that a process says on an open connection, while the link isn't up, waits behind the others: the node tells
 /// it and puts it, the host keeps it and dials where nobody does, and what is seen then is the passage after the move.
@@ -74,6 +89,54 @@ pub fn said_first_while_up()
 /// close and nothing more, and what is seen then is the passage after the move.
 pub fn reconnected_while_up()
     ensures { (names : List Name) → AreApart names → (scene : Scene) (c : ℕ) (name : Name) (conn id sock : ℕ) (probed : Bool) (table : List Connection) → ReconnectsUp names scene c name conn id sock probed table → IsClosed names scene c name conn id sock table }
+{}
+
+/// A message that a process says for a broken pair goes nowhere: the node tells it and does nothing more, and what is seen then
+/// is the passage after the move.
+pub fn said_on_a_broken_pair()
+    ensures { (names : List Name) → AreApart names → (scene : Scene) (c : ℕ) (name : Name) (said : Message) → SaysBroken names scene c name → IsWasted names scene c name said }
+{}
+
+/// A pair with no open connection that is reconnected, be it broken or not, is told its next epoch and does nothing more, and
+/// what is seen then is the passage after the move.
+pub fn reconnected_without_a_connection()
+    ensures { (names : List Name) → AreApart names → (scene : Scene) (c : ℕ) (name : Name) → ReconnectsBare names scene c name → IsRenewed names scene c name }
+{}
+
+/// Whatever the sending node does that changes no pair and ends no process: what is seen is as before.
+pub fn unseen_at_the_sender()
+    ensures { (names : List Name) (scene : Scene) (now : NodeState) → Keeps scene.from.node now → view names (kept_in scene now) ≡ view names scene }
+{}
+
+/// What concerns a process's own mail alone is nothing to see at the sending node, and at the receiving node is an event as
+/// `stood_by_an_event` asks for: it takes a message from its mailbox or a port, or opens a port; and so is it that a process
+/// is made.
+pub fn own_mail()
+    ensures received { (node : NodeState) (by : ℕ) (mark : List ℕ) (room : Room) (did : List Act) (now : NodeState) → node_command node by (Receive mark) room ≡ Ok (did, now) → Keeps node now × Ages node now }
+    ensures taken { (node : NodeState) (by port : ℕ) (room : Room) (did : List Act) (now : NodeState) → node_command node by (Take port) room ≡ Ok (did, now) → Keeps node now × Ages node now }
+    ensures opened { (node : NodeState) (by : ℕ) (room : Room) (did : List Act) (now : NodeState) → node_command node by OpenPort room ≡ Ok (did, now) → Keeps node now × Ages node now }
+    ensures made { (node : NodeState) (origin : Option Origin) (args : List ℕ) (did : List Act) (now : NodeState) → make node origin args ≡ Ok (did, now) → Keeps node now × Ages node now }
+{}
+
+/// A process of a node is over: at the receiving node that is an event as `stood_by_an_event` asks for; at the sending node, of
+/// a process that was made, it is over then and its pairs have no connection, and else all is as before. So it is with all
+/// that its watchers are told.
+pub fn over_at_a_node()
+    ensures ages { (node : NodeState) (number : ℕ) (reason : Reason) (did : List Act) (now : NodeState) → over node number reason ≡ Ok (did, now) → Ages node now }
+    ensures ends { (node : NodeState) (number : ℕ) (reason : Reason) (did : List Act) (now : NodeState) → over node number reason ≡ Ok (did, now) → is_some (life_of node.mail number) ≡ true → Ends node number now }
+{}
+
+/// A connection of a pair is closed on the link with the peer, in whatever state that is: its close is written or waits, and
+/// what is seen then is the passage that has written it.
+pub fn closed_on_the_link()
+    ensures { (names : List Name) (scene : Scene) (p : Parting) → Parts scene p → IsParted names scene p }
+{}
+
+/// A process of the sending node that is over closes its connections: the host closes one after another, and what is seen
+/// then is the passage after its pairs are finished, those with a connection in the order of the closes and the others after
+/// them.
+pub fn over_at_the_sender()
+    ensures { (names : List Name) (scene : Scene) (number : ℕ) (now : NodeState) (ps : List Parting) (others : List ℕ) → EndsWith names scene number now ps others → IsOver names scene now ps others }
 {}
 
 /// An input that brings the sending node's link up on a socket, as its dial was accepted or it takes a request: the host tells
@@ -165,4 +228,19 @@ pub fn scenes()
     ensures closing { ClosesFirst (up_with bound_there (Closed 0 0 ∷ [])) [] the_closing }
     ensures fall { FallsOff (up_with bound_there (message_item ∷ [])) 1 false [] }
     ensures loss { LosesSocket the_names (said_once (Up 0 false)) 0 false (record open_pair { mark = Broken } ∷ []) }
+{}
+
+/// The same of what is read: that a connection is created; an opening and a message for a port and for a name; a message for
+/// a name that nobody has, and for a process that is over; and that the process is over there, to which a connection leads.
+pub fn readings()
+    ensures created { CreatesNext up_there }
+    ensures opening_port { OpensFirst (pairs_to port_there) (up_to Unread (Created 0 0 ∷ [])) (pair_to port_there) [] (opening_to port_there) }
+    ensures opening_name { OpensFirst (pairs_to name_there) (up_to Unread (Created 0 0 ∷ [])) (pair_to name_there) [] (opening_to name_there) }
+    ensures reading_port { ReadsFirst (pairs_to port_there) (up_to (bound_as (only here) port_there) (message_item ∷ [])) (pair_to port_there) [] (reading_to port_there (record { life = Live; mailbox = []; ports = (hello ∷ []) ∷ [] } ∷ [])) }
+    ensures reading_name { ReadsFirst (pairs_to name_there) (up_to (bound_as (only here) name_there) (message_item ∷ [])) (pair_to name_there) [] (reading_to name_there (record { life = Live; mailbox = hello ∷ []; ports = [] ∷ [] } ∷ [])) }
+    ensures arriving { ArrivesFirst (up_with (ToNames (only here)) (message_item ∷ [])) [] (arriving_on (ToNames (only here)) name_there) }
+    ensures nobody { ReadsForNobody (pairs_to name_there) (up_with (ToNames (only here)) (message_item ∷ [])) 0 title (only here) hello (arriving_on (ToNames (only here)) name_there) }
+    ensures over { LeadsNowhere over_there bound_there }
+    ensures leads { Faithful the_names (up_with bound_there []) }
+    ensures ages { Ages (up_with bound_there []).to.node (record ((up_with bound_there []).to.node) { mail = over_there.mail }) }
 {}
