@@ -12,6 +12,7 @@ use Rattle.ch_model.specs.HostState.{Link, HostState}
 use Rattle.ch_model.specs.HostSteps.{link_with}
 use Rattle.ch_model.specs.HostWrites.{is_up, said_of}
 use Rattle.ch_model.specs.HostCalls.{host_close}
+use Rattle.ch_model.specs.NodeState as nodes
 use Rattle.ch_model.specs.NodeState.{NodeState, Pair}
 use Rattle.ch_model.specs.NodePairs.{is_pair, new_pair, pair_of, closed_mark, closed_by, closed_pairs}
 use Rattle.ch_delivery.specs.Passage.{Mark, Opened, Ended, Item, Closed, Passage}
@@ -19,7 +20,7 @@ use Rattle.ch_delivery.specs.Passage as marks
 use Rattle.ch_delivery.specs.Moves as moves
 use Rattle.ch_delivery.specs.Moves.{Finish, put, onto, marked, written, write, after, run}
 use Rattle.ch_laws_delivery.specs.Scene.{Name, Use, Scene, link_of}
-use Rattle.ch_laws_delivery.specs.Sending.{mark_as, has_ended, pair_at, mark_of, epoch_of, index_of, closing, items_in, items_of}
+use Rattle.ch_laws_delivery.specs.Sending.{mark_as, is_over_at, has_ended, pair_at, mark_of, epoch_of, index_of, closing, items_in, items_of}
 use Rattle.ch_laws_delivery.specs.View.{view}
 use Rattle.ch_laws_delivery.specs.Reconnects.{closed_host}
 use Rattle.ch_laws_delivery.specs.UpReconnects.{close_frame, host_without}
@@ -272,10 +273,14 @@ module _ (names : List Name) (scene : Scene) (number : ℕ) (now : NodeState) (p
   now_pair name = ap (λ pairs. pair_of pairs name.by name.to) h.ends.pairs ∙ pair_closed number N.pairs name.by name.to
 
   mark_now : (o : Option Name) → mark_of now o ≡ cond (is_by number o) Ended (mark_of N o)
-  mark_now None = refl
-  mark_now (Some name) = ap (λ b. mark_as b (pair_at now name).mark) (h.ends.ended name.by) ∙ by_test (name.by == number) refl where
-    by_test : (b : Bool) → (name.by == number) ≡ b → mark_as (if b then true else has_ended N name.by) (pair_at now name).mark ≡ cond b Ended (mark_as (has_ended N name.by) (pair_at N name).mark)
-    by_test true is = refl
+  mark_now None = ap (λ b. mark_as b nodes.Unopened) h.ends.shut
+  mark_now (Some name) = ap (λ b. mark_as (b || is_over_at now name.by) (pair_at now name).mark) h.ends.shut ∙ ap (λ b. mark_as (N.is_shut || b) (pair_at now name).mark) (h.ends.over name.by) ∙ by_test (name.by == number) refl where
+    either : (b : Bool) (m : nodes.Mark) → mark_as (b || true) m ≡ Ended
+    either true m = refl
+    either false m = refl
+
+    by_test : (b : Bool) → (name.by == number) ≡ b → mark_as (N.is_shut || (if b then true else is_over_at N name.by)) (pair_at now name).mark ≡ cond b Ended (mark_as (has_ended N name.by) (pair_at N name).mark)
+    by_test true is = either N.is_shut (pair_at now name).mark
     by_test false is = ap (λ (q : Pair). mark_as (has_ended N name.by) q.mark) (now_pair name)
         ∙ ap (mark_as (has_ended N name.by)) (other_mark number (pair_at N name) (ap (λ (z : ℕ). z == number) (pair_named N.pairs name.by name.to).0 ∙ is))
 

@@ -30,3 +30,4 @@ pub mod OwnMail
 pub mod Tells
 pub mod Overs
 pub mod Farewells
+pub mod Shuts

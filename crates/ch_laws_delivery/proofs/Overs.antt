@@ -109,7 +109,7 @@ module _ (n : NodeState) (number : ℕ) (reason : Reason) (did : List Act) (now 
       self i = eq-eqb i i refl
 
   pub over_ends : is_some (life_of n.mail number) ≡ true → Ends n number now
-  over_ends made = record { pairs = passed.still.0.pairs; ended = λ by. passed.still.0.ended by ∙ by_own by (by == number) refl } where
+  over_ends made = record { pairs = passed.still.0.pairs; shut = passed.still.0.shut; over = λ by. passed.still.0.over by ∙ by_own by (by == number) refl } where
     self : (i : ℕ) → (i == i) ≡ true
     self i = eq-eqb i i refl
 

@@ -40,7 +40,7 @@ Still n now = Keeps n now × Ages n now
 
 pub with_lives : (n : NodeState) (mail : List Process) → ((i : ℕ) → life_of mail i ≡ life_of n.mail i) → Still n (record n { mail = mail })
 with_lives n mail same = (
-  record { pairs = refl; ended = λ by. ap (λ (o : Option Life). option_map_or is_over o false) (same by) },
+  record { pairs = refl; shut = refl; over = λ by. ap (λ (o : Option Life). option_map_or is_over o false) (same by) },
   record { own = refl; unique = refl; arrived = refl; over = λ by over. ap (λ (o : Option Life). option_map_or is_over o false) (same by) ∙ over },
 )
 
@@ -150,6 +150,6 @@ makes_still n origin args did now h =
 
       by_mail : (mail : List Process) → n.mail ++ newborn ∷ [] ≡ mail → Still n (with_process n mail args)
       by_mail mail is = subst (λ (z : List Process). Still n (with_process n z args)) is (
-        record { pairs = refl; ended = λ by. push_ended n.mail by },
+        record { pairs = refl; shut = refl; over = λ by. push_ended n.mail by },
         record { own = refl; unique = refl; arrived = refl; over = λ by over. push_ended n.mail by ∙ over },
       )

@@ -106,12 +106,12 @@ module _ (names : List Name) (apart : AreApart names) (scene : Scene) (c : ℕ) 
 
   -- a reading of pairs by their names, after both
   module _ {X : Type 0} (f : NodeState → Option Name → X) (x y : X) (mine : f (keeping Mid (with_conn P conn)) (Some name) ≡ x) (half : f Mid (Some name) ≡ y)
-      (none : (n m : NodeState) → f n None ≡ f m None) (others : (q : Pair) (n : NodeState) (other : Name) → pair_at (keeping n q) other ≡ pair_at n other → f (keeping n q) (Some other) ≡ f n (Some other))
+      (none : (q : Pair) (n : NodeState) → f (keeping n q) None ≡ f n None) (others : (q : Pair) (n : NodeState) (other : Name) → pair_at (keeping n q) other ≡ pair_at n other → f (keeping n q) (Some other) ≡ f n (Some other))
       (counted : (o : Option Name) → f (first_after N P conn) o ≡ f (keeping Mid (with_conn P conn)) o) where
     read_twice : (d : ℕ) → f (first_after N P conn) (slice_get names d) ≡ put c x (λ e. f N (slice_get names e)) d
     read_twice d = counted (slice_get names d)
-        ∙ read_at names apart Mid c name known (with_conn P conn) by_is to_is f x mine (none (keeping Mid (with_conn P conn)) Mid) (λ other same. others (with_conn P conn) Mid other same) d
-        ∙ ap (cond (nat_eq d c) x) (read_at names apart N c name known (with_said P) by_is to_is f y half (none Mid N) (λ other same. others (with_said P) N other same) d)
+        ∙ read_at names apart Mid c name known (with_conn P conn) by_is to_is f x mine (none (with_conn P conn) Mid) (λ other same. others (with_conn P conn) Mid other same) d
+        ∙ ap (cond (nat_eq d c) x) (read_at names apart N c name known (with_said P) by_is to_is f y half (none (with_said P) N) (λ other same. others (with_said P) N other same) d)
         ∙ twice (nat_eq d c) where
           twice : (b : Bool) → cond b x (cond b y (f N (slice_get names d))) ≡ cond b x (f N (slice_get names d))
           twice true = refl
@@ -133,14 +133,14 @@ module _ (names : List Name) (apart : AreApart names) (scene : Scene) (c : ℕ) 
   index_counted (Some other) = refl
 
   pub marks : (d : ℕ) → mark_of (first_after N P conn) (slice_get names d) ≡ put c Opened V.mark d
-  marks = read_twice mark_of Opened (mark_of Mid (Some name)) (ap (λ (z : Pair). mark_as (has_ended N name.by) z.mark) now_own ∙ ap (λ b. mark_as b (nodes.Opened conn)) lives) refl (λ n m. refl)
+  marks = read_twice mark_of Opened (mark_of Mid (Some name)) (ap (λ (z : Pair). mark_as (has_ended N name.by) z.mark) now_own ∙ ap (λ b. mark_as b (nodes.Opened conn)) lives) refl (λ q n. refl)
       (λ q n other same. ap (λ (z : Pair). mark_as (has_ended n other.by) z.mark) same) mark_counted
 
   pub epochs : (d : ℕ) → epoch_of (first_after N P conn) (slice_get names d) ≡ put c (V.epoch c) V.epoch d
-  epochs = read_twice epoch_of (V.epoch c) (epoch_of Mid (Some name)) (ap (λ (z : Pair). z.epoch) now_own ∙ sym epoch_is) refl (λ n m. refl) (λ q n other same. ap (λ (z : Pair). z.epoch) same) epoch_counted
+  epochs = read_twice epoch_of (V.epoch c) (epoch_of Mid (Some name)) (ap (λ (z : Pair). z.epoch) now_own ∙ sym epoch_is) refl (λ q n. refl) (λ q n other same. ap (λ (z : Pair). z.epoch) same) epoch_counted
 
   pub indexes : (d : ℕ) → index_of (first_after N P conn) (slice_get names d) ≡ put c (suc (V.index c)) V.index d
-  indexes = read_twice index_of (suc (V.index c)) (index_of Mid (Some name)) (ap (λ (z : Pair). z.index) now_own ∙ one_more P.index ∙ ap suc (sym index_is)) refl (λ n m. refl)
+  indexes = read_twice index_of (suc (V.index c)) (index_of Mid (Some name)) (ap (λ (z : Pair). z.index) now_own ∙ one_more P.index ∙ ap suc (sym index_is)) refl (λ q n. refl)
       (λ q n other same. ap (λ (z : Pair). z.index) same) index_counted
 
   pub entry_is : ◌≡◌ {A = List Entry} (Said c P.epoch P.index ∷ scene.log) (Said c (V.epoch c) (V.index c) ∷ scene.log)

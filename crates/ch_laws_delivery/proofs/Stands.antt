@@ -19,7 +19,7 @@ use Rattle.ch_model.specs.NodeIds.{is_own, life_here, is_living, is_port_here}
 use Rattle.ch_delivery.specs.Passage.{Void, Bound, Unknown, is_some, is_there}
 use Rattle.ch_delivery.specs.Moves.{Stand, kept_bound, after}
 use Rattle.ch_laws_delivery.specs.Scene.{Name, Scene, link_of}
-use Rattle.ch_laws_delivery.specs.Sending.{is_named, named, has_ended}
+use Rattle.ch_laws_delivery.specs.Sending.{is_named, named, is_over_at}
 use Rattle.ch_laws_delivery.specs.Receiving.{if_living, stands_for, standing_for, binding_of, of_arrived, of_conn, of_created, place_for, at_place, bound_of}
 use Rattle.ch_laws_delivery.specs.View.{view}
 use Rattle.ch_laws_delivery.specs.Standings.{WasThere, IsTo, LeadsTo, Faithful, Ages, standings, stood_in, IsStood}
@@ -31,7 +31,7 @@ module _ (n m : NodeState) (h : Ages n m) where
   own_still p = ap (λ (a : AddressValue). same_node p.node a && (p.unique == m.unique)) h.own ∙ ap (λ (u : ℕ). same_node p.node n.own && (p.unique == u)) h.unique
 
   -- a process of the node that was made and doesn't live is over
-  is_ended : (p : ProcessId) → is_own n p ≡ true → std.is_some (life_of n.mail p.counter) ≡ true → is_living n p ≡ false → has_ended n p.counter ≡ true
+  is_ended : (p : ProcessId) → is_own n p ≡ true → std.is_some (life_of n.mail p.counter) ≡ true → is_living n p ≡ false → is_over_at n p.counter ≡ true
   unfolding is_living life_here
   is_ended p own made gone = by_life (life_of n.mail p.counter) made (sym (ap (λ b. option_map_or (λ life. not (is_over life)) (if b then life_of n.mail p.counter else None) false) own) ∙ gone) where
     turned : (b : Bool) → not b ≡ false → b ≡ true
@@ -47,7 +47,7 @@ module _ (n m : NodeState) (h : Ages n m) where
       clash e = cc
 
   -- one that is over doesn't live
-  not_living : (p : ProcessId) → has_ended m p.counter ≡ true → is_living m p ≡ false
+  not_living : (p : ProcessId) → is_over_at m p.counter ≡ true → is_living m p ≡ false
   unfolding is_living life_here
   not_living p over = by_own (is_own m p) (life_of m.mail p.counter) over where
     by_own : (b : Bool) (o : Option Life) → option_map_or is_over o false ≡ true → option_map_or (λ life. not (is_over life)) (if b then o else None) false ≡ false

@@ -44,13 +44,13 @@ use Rattle.ch_laws_delivery.proofs.OwnMail.{Still, with_lives}
 -- ---- one thing and then another
 
 pub still_self : (n : NodeState) → Still n n
-still_self n = (record { pairs = refl; ended = λ by. refl }, record { own = refl; unique = refl; arrived = refl; over = λ by over. over })
+still_self n = (record { pairs = refl; shut = refl; over = λ by. refl }, record { own = refl; unique = refl; arrived = refl; over = λ by over. over })
 
 pub ages_then : (n m o : NodeState) → Ages n m → Ages m o → Ages n o
 ages_then n m o a b = record { own = b.own ∙ a.own; unique = b.unique ∙ a.unique; arrived = b.arrived ∙ a.arrived; over = λ by over. b.over by (a.over by over) }
 
 still_then : (n m o : NodeState) → Still n m → Still m o → Still n o
-still_then n m o a b = (record { pairs = b.0.pairs ∙ a.0.pairs; ended = λ by. b.0.ended by ∙ a.0.ended by }, ages_then n m o a.1 b.1)
+still_then n m o a b = (record { pairs = b.0.pairs ∙ a.0.pairs; shut = b.0.shut ∙ a.0.shut; over = λ by. b.0.over by ∙ a.0.over by }, ages_then n m o a.1 b.1)
 
 -- what is done leaves the pairs and the ends of the node as they were
 abbrev pub LeavesStill : NodeState → Done → Type 0
@@ -83,7 +83,7 @@ first_still n peer said weight did now h = by_draw (drawn n) h where
       → node.◌>>=◌ r (λ conn. doing (opening conn peer (ends.Node n.own) (ends.Node peer) ++ acts.Put conn (spelling.message said) weight ∷ []) (record n { opened = n.opened + 1; to_nodes = n.to_nodes ++ (peer, conn) ∷ [] })) ≡ Ok (did, now) → Still n now
   by_draw (Err e) q = refused e (did, now) q
   by_draw (Ok conn) q = done_still n (record n { opened = n.opened + 1; to_nodes = n.to_nodes ++ (peer, conn) ∷ [] }) (opening conn peer (ends.Node n.own) (ends.Node peer) ++ acts.Put conn (spelling.message said) weight ∷ [])
-      (record { pairs = refl; ended = λ by. refl }, record { own = refl; unique = refl; arrived = refl; over = λ by over. over }) did now q
+      (record { pairs = refl; shut = refl; over = λ by. refl }, record { own = refl; unique = refl; arrived = refl; over = λ by over. over }) did now q
 
 pub tell_node_still : (n : NodeState) (peer : AddressValue) (said : NodeMessage) (weight : Weight) → LeavesStill n (tell_node n peer said weight)
 unfolding tell_node
@@ -125,7 +125,7 @@ doom_still n number text = done_still n (record n { mail = (doom_at n.mail numbe
         clash e = cc
 
       with_ended : (n : NodeState) (mail : List Process) → ((i : ℕ) → option_map_or is_over (life_of mail i) false ≡ option_map_or is_over (life_of n.mail i) false) → Still n (record n { mail = mail })
-      with_ended n mail same = (record { pairs = refl; ended = same }, record { own = refl; unique = refl; arrived = refl; over = λ by over. same by ∙ over })
+      with_ended n mail same = (record { pairs = refl; shut = refl; over = same }, record { own = refl; unique = refl; arrived = refl; over = λ by over. same by ∙ over })
 
       through : (o : Option Process) → option_map_or is_over (option_map (λ (z : Process). z.life) o) false ≡ option_map_or (λ (b : Bool). b) (option_map (λ (z : Process). is_over z.life) o) false
       through None = refl
@@ -158,7 +158,7 @@ told_still n watch reason = by_awaited (is_here n watch.node && is_awaited n.wat
   by_list : (r : Result (Waiting × Lists) WatchError) → LeavesStill n (told_closed n watch reason (without n r))
   by_list (Err e) = done_still n n [] (still_self n)
   by_list (Ok closed) = from_still n (record n { watches = closed.1 }) (told_as closed.0.kind (record n { watches = closed.1 }) watch reason closed.0.owner)
-      (record { pairs = refl; ended = λ by. refl }, record { own = refl; unique = refl; arrived = refl; over = λ by over. over }) (watch_still closed.0.kind (record n { watches = closed.1 }) watch reason closed.0.owner)
+      (record { pairs = refl; shut = refl; over = λ by. refl }, record { own = refl; unique = refl; arrived = refl; over = λ by over. over }) (watch_still closed.0.kind (record n { watches = closed.1 }) watch reason closed.0.owner)
 
   by_awaited : (b : Bool) → LeavesStill n (told_closed n watch reason (if b then without n (told_of n.watches watch.number) else None))
   by_awaited true = by_list (told_of n.watches watch.number)

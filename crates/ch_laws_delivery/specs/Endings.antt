@@ -12,7 +12,7 @@ use Rattle.ch_model.specs.NodePairs.{closed_pairs}
 use Rattle.ch_delivery.specs.Passage.{Opened, Closed, Passage}
 use Rattle.ch_delivery.specs.Moves.{Finish, write, run}
 use Rattle.ch_laws_delivery.specs.Scene.{Name, Scene, link_of}
-use Rattle.ch_laws_delivery.specs.Sending.{has_ended, use_at}
+use Rattle.ch_laws_delivery.specs.Sending.{is_over_at, use_at}
 use Rattle.ch_laws_delivery.specs.Reconnects.{closed_host}
 use Rattle.ch_laws_delivery.specs.UpSends.{sent}
 use Rattle.ch_laws_delivery.specs.UpReconnects.{close_frame, host_without}
@@ -23,7 +23,8 @@ use Rattle.ch_laws_delivery.specs.View.{view}
 -- The process of this number is over, and every other as before; its pairs have no connection any more.
 pub record Ends (node : NodeState) (number : ℕ) (now : NodeState) : Type 0 where
   pub pairs : now.pairs ≡ closed_pairs node.pairs number
-  pub ended : (by : ℕ) → has_ended now by ≡ (if by == number then true else has_ended node by)
+  pub shut : now.is_shut ≡ node.is_shut
+  pub over : (by : ℕ) → is_over_at now by ≡ (if by == number then true else is_over_at node by)
 
 -- ---- the host closes a connection
 

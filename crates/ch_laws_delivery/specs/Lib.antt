@@ -22,3 +22,5 @@ pub mod ReadingRows
 pub mod Bares
 pub mod Quiets
 pub mod Endings
+pub mod Shuts
+pub mod EndingRows

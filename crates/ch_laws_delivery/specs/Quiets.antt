@@ -2,12 +2,13 @@
 use Rattle.std.specs.Prelude.{◌≡◌, ℕ}
 use Rattle.ch_model.specs.NodeState.{NodeState}
 use Rattle.ch_laws_delivery.specs.Scene.{Scene}
-use Rattle.ch_laws_delivery.specs.Sending.{has_ended}
+use Rattle.ch_laws_delivery.specs.Sending.{is_over_at}
 
 -- the pairs are as before, and the same processes are over
 pub record Keeps (node now : NodeState) : Type 0 where
   pub pairs : now.pairs ≡ node.pairs
-  pub ended : (by : ℕ) → has_ended now by ≡ has_ended node by
+  pub shut : now.is_shut ≡ node.is_shut
+  pub over : (by : ℕ) → is_over_at now by ≡ is_over_at node by
 
 -- the scene where the sending node is this
 abbrev pub kept_in : Scene → NodeState → Scene

@@ -10,7 +10,7 @@ use Rattle.ch_model.specs.NodeIds.{is_own, is_port_here}
 use Rattle.ch_delivery.specs.Passage.{Stood}
 use Rattle.ch_delivery.specs.Moves.{Stand, after}
 use Rattle.ch_laws_delivery.specs.Scene.{Name, Scene, link_of}
-use Rattle.ch_laws_delivery.specs.Sending.{named, has_ended}
+use Rattle.ch_laws_delivery.specs.Sending.{named, is_over_at}
 use Rattle.ch_laws_delivery.specs.Receiving.{standing_for, place_for}
 use Rattle.ch_laws_delivery.specs.View.{view}
 
@@ -45,7 +45,7 @@ pub record Ages (node now : NodeState) : Type 0 where
   pub own : now.own ≡ node.own
   pub unique : now.unique ≡ node.unique
   pub arrived : now.arrived ≡ node.arrived
-  pub over : (by : ℕ) → has_ended node by ≡ true → has_ended now by ≡ true
+  pub over : (by : ℕ) → is_over_at node by ≡ true → is_over_at now by ≡ true
 
 -- who stands for each pair's target then
 abbrev pub standings : List Name → NodeState → ℕ → Option ℕ

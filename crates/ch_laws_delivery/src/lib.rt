@@ -29,6 +29,8 @@ ghost use Rattle.ch_laws_delivery.specs.UpReconnects.{ReconnectsUp, IsClosed};
 ghost use Rattle.ch_laws_delivery.specs.Bares.{SaysBroken, IsWasted, ReconnectsBare, IsRenewed};
 ghost use Rattle.ch_laws_delivery.specs.Quiets.{Keeps, kept_in};
 ghost use Rattle.ch_laws_delivery.specs.Endings.{Ends, Parting, Parts, IsParted, EndsWith, IsOver};
+ghost use Rattle.ch_laws_delivery.specs.Shuts.{IsShut, IsShutThere, IsShutOff};
+ghost use Rattle.ch_laws_delivery.specs.EndingRows.{broken_once, the_parting, over_here};
 ghost use Rattle.ch_laws_delivery.specs.Rises.{ComesUp, IsRisen, IsCome};
 ghost use Rattle.ch_laws_delivery.specs.Losses.{LosesSocket, IsBroken};
 ghost use Rattle.ch_laws_delivery.specs.Falls.{FallsOff, IsFallen};
@@ -211,6 +213,15 @@ pub fn stood_by_an_event()
     ensures { (names : List Name) (scene : Scene) (now : NodeState) → Faithful names scene → Ages scene.to.node now → IsStood names scene now }
 {}
 
+/// A node that is shut, and wasn't, tells it, and its host shuts the link with the peer. At the sending node what is seen then
+/// is the passage after the move. At the receiving node it is the passage after nobody stands for a target any more and the
+/// link fails; where it isn't up, and no id is of a connection there, it is so after the first of the two.
+pub fn shut_at_a_node()
+    ensures sender { (names : List Name) (scene : Scene) → scene.from.node.is_shut ≡ false → IsShut names scene }
+    ensures receiver { (names : List Name) (scene : Scene) → scene.to.node.is_shut ≡ false → IsShutThere names scene }
+    ensures off { (names : List Name) (scene : Scene) → scene.to.node.is_shut ≡ false → scene.created ≡ [] → IsShutOff names scene }
+{}
+
 /// What the laws ask can be had: small scenes, in which a first message is said, and a second, and the pair reconnects; the opening and the first
 /// are read; and the link loses its socket, at either node.
 pub fn scenes()
@@ -243,4 +254,13 @@ pub fn readings()
     ensures over { LeadsNowhere over_there bound_there }
     ensures leads { Faithful the_names (up_with bound_there []) }
     ensures ages { Ages (up_with bound_there []).to.node (record ((up_with bound_there []).to.node) { mail = over_there.mail }) }
+{}
+
+/// The same of a pair that is broken, which says a message and reconnects; of its connection, which is closed; and of its
+/// process, which is over.
+pub fn endings()
+    ensures broken { SaysBroken the_names broken_once 0 the_name }
+    ensures bare { ReconnectsBare the_names broken_once 0 the_name }
+    ensures parting { Parts (said_once (Up 0 false)) the_parting }
+    ensures ending { EndsWith the_names (said_once (Up 0 false)) 0 over_here (the_parting ∷ []) [] }
 {}

@@ -14,7 +14,7 @@ use Rattle.ch_model.specs.NodeState.{Arrived}
 use Rattle.ch_model.specs.NodeIds.{is_living, life_here, is_own, is_port_here, has_port}
 use Rattle.ch_model.specs.NodeAsks.{standing}
 use Rattle.ch_laws_delivery.specs.Scene.{Use}
-use Rattle.ch_laws_delivery.specs.Sending.{has_ended}
+use Rattle.ch_laws_delivery.specs.Sending.{is_over_at}
 use Rattle.ch_laws_delivery.specs.Receiving.{place_for}
 use Rattle.ch_laws_delivery.specs.Standings.{LeadsTo}
 use Rattle.ch_laws_delivery.specs.Rows.{the_names, the_name, the_use, arrived_as, bound_there, up_with}
@@ -92,6 +92,6 @@ returns-clause-ages z = record { own = refl; unique = refl; arrived = refl; over
     wrong : false ≡ true → ⊥
     wrong h = cc
 
-  still : (by : ℕ) → has_ended (up_with bound_there []).to.node by ≡ true → has_ended (record ((up_with bound_there []).to.node) { mail = over_there.mail }) by ≡ true
+  still : (by : ℕ) → is_over_at (up_with bound_there []).to.node by ≡ true → is_over_at (record ((up_with bound_there []).to.node) { mail = over_there.mail }) by ≡ true
   still zero over = refl
   still (suc by) over = clash over
