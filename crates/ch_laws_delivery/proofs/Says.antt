@@ -1,10 +1,11 @@
 -- A message that is said on an open connection while the link isn't up waits, as the passage's move says.
-use Rattle.std.specs.Prelude.{◌≡◌, ℕ, false, List, [], ◌∷◌, ◌++◌}
+use Rattle.std.specs.Prelude.{◌≡◌, ℕ, false, List, [], ◌∷◌, ◌++◌, Ok}
 use Rattle.std.proofs.Common.{refl, ap, sym, ◌∙◌}
 use Rattle.std.proofs.lemmas.Grind.{flat_map-append}
 use Rattle.ch_ident.specs.declared.message.Message.{Message}
 use Rattle.ch_static.specs.declared.target.Target.{Target}
 use Rattle.ch_wire.specs.declared.frame.Frame.TheVariants as frames
+use Rattle.ch_model.specs.declared.step.Step.{Step}
 use Rattle.ch_model.specs.HostState.{Link}
 use Rattle.ch_model.specs.HostSteps.{link_with}
 use Rattle.ch_model.specs.HostWrites.{is_up, said_of}
@@ -60,9 +61,9 @@ module _ (names : List Name) (apart : AreApart names) (scene : Scene) (c : ℕ) 
 
   pub is_said : IsSaid names scene c name conn said
   is_said = record {
-    steps = taken.done;
     host = taken.now;
     node_says = says_it N P said conn h.grows h.opened (ap (λ (z : Target). is_here N (target_at z)) (to_is names apart scene c name (nodes.Opened conn) h.known h.lives h.opened) ∙ h.away);
-    host_takes = sends scene.from.host scene.from.end conn (payload_of P.to said) (weight_at P) (link_of scene.from) id h.carried h.short h.room h.given ∙ taken.did;
+    host_takes = sends scene.from.host scene.from.end conn (payload_of P.to said) (weight_at P) (link_of scene.from) id h.carried h.short h.room h.given ∙ taken.did ∙ ap (λ (done : List Step). Ok (done, taken.now)) taken.does;
+    settled = taken.settled;
     seen = seen_now;
   }

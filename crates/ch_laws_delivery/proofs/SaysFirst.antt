@@ -10,11 +10,14 @@ use Rattle.ch_ident.specs.declared.message.Message.{Message}
 use Rattle.ch_light.proofs.Lists.{push_other}
 use Rattle.ch_light.specs.declared.TheConstants.{FIRST_ID}
 use Rattle.ch_light.specs.Ids.{id_of, opened}
+use Rattle.ch_link.specs.declared.LinkState.{LinkState}
+use Rattle.ch_link.specs.declared.LinkState.TheVariants.{Idle, Dialing, AwaitOther, Up}
 use Rattle.ch_static.specs.declared.target.Target.{Target}
 use Rattle.ch_wire.specs.declared.frame.Frame.{Frame}
 use Rattle.ch_wire.specs.declared.frame.Frame.TheVariants as frames
 use Rattle.ch_model.specs.declared.step.EndError.TheVariants.{QueueFull}
 use Rattle.ch_model.specs.declared.step.Place.{Place}
+use Rattle.ch_model.specs.declared.step.Step.{Step}
 use Rattle.ch_model.specs.declared.step.Weight.{Weight}
 use Rattle.ch_model.specs.declared.step.Weight.TheVariants.{Free}
 use Rattle.ch_model.specs.HostState.{Link, HostState}
@@ -28,11 +31,11 @@ use Rattle.ch_delivery.specs.Passage.{Item, Passage}
 use Rattle.ch_delivery.specs.Moves.{Say, written, after}
 use Rattle.ch_laws_delivery.specs.Scene.{Name, Use, Scene, link_of}
 use Rattle.ch_laws_delivery.specs.Sending.{pair_at, flat, use_at, carried, closing, items_in, items_of}
-use Rattle.ch_laws_delivery.specs.Sends.{weight_at}
+use Rattle.ch_laws_delivery.specs.Sends.{weight_at, dial_steps}
 use Rattle.ch_laws_delivery.specs.View.{view, AreApart}
 use Rattle.ch_laws_delivery.specs.FirstSends.{IsGiven, AreGiven, opening_of, next_id, SaysFirst, first_in, IsSaidFirst}
 use Rattle.ch_laws_delivery.proofs.Keys.{link_named}
-use Rattle.ch_laws_delivery.proofs.Hosts.{Takes, takes, sends, Alone, none_alone, kept_alone, alone_found}
+use Rattle.ch_laws_delivery.proofs.Hosts.{Takes, takes, sends, Alone, none_alone, kept_alone, alone_found, none_dialed}
 use Rattle.ch_laws_delivery.proofs.Connects.{connects_on, carries_own}
 use Rattle.ch_laws_delivery.proofs.SayingFirst.{says_first, next_use, Items, Told, moved, to_is, marks, epochs, indexes, entry_is, two_items}
 use Rattle.ch_laws_delivery.proofs.Alike.{sending_alike}
@@ -96,8 +99,15 @@ module _ (names : List Name) (apart : AreApart names) (scene : Scene) (c : ℕ) 
   key : (L.end ≡ scene.from.end) × (L.peer ≡ scene.from.peer)
   key = link_named H scene.from.end scene.from.peer
 
-  connects : host_connect H scene.from.end (target_at P.to) conn ≡ Ok (first_takes.done, first_takes.now)
-  connects = connects_on H scene.from.end scene.from.peer (target_at P.to) conn h.at_peer h.endpoint h.unspent ∙ first_takes.did
+  -- the link dials the same socket with the connection and without
+  same_dial : (state : LinkState) → dial_steps state Given H ≡ dial_steps state L H
+  same_dial Idle = refl
+  same_dial (Dialing sock) = refl
+  same_dial AwaitOther = refl
+  same_dial (Up sock probed) = refl
+
+  connects : host_connect H scene.from.end (target_at P.to) conn ≡ Ok (dial_steps L.state L H, first_takes.now)
+  connects = connects_on H scene.from.end scene.from.peer (target_at P.to) conn h.at_peer h.endpoint h.unspent ∙ first_takes.did ∙ ap (λ (done : List Step). Ok (done, first_takes.now)) (first_takes.does ∙ same_dial L.state)
 
   -- a link with this key and these ids carries the connection
   own : (link : Link) → link.end ≡ L.end → link.given ≡ L.given ++ opened conn ∷ [] → carries scene.from.end conn link ≡ true
@@ -123,8 +133,9 @@ module _ (names : List Name) (apart : AreApart names) (scene : Scene) (c : ℕ) 
   abbrev Two : Link
   Two = record One { state = second_takes.next; waits = One.waits ++ Opener ∷ [] }
 
-  tells : host_send first_takes.now scene.from.end conn (opening_of N P) Free ≡ Ok (second_takes.done, second_takes.now)
+  tells : host_send first_takes.now scene.from.end conn (opening_of N P) Free ≡ Ok ([], second_takes.now)
   tells = sends first_takes.now scene.from.end conn (opening_of N P) Free One (next_id L) first_found h.short_opening refl h.given ∙ second_takes.did
+      ∙ ap (λ (done : List Step). Ok (done, second_takes.now)) (second_takes.does ∙ none_dialed first_takes.next One first_takes.now first_takes.busy)
 
   second_found : find (carries scene.from.end conn) second_takes.now.links ≡ Some Two
   second_found = ap (find (carries scene.from.end conn)) second_takes.links
@@ -143,8 +154,9 @@ module _ (names : List Name) (apart : AreApart names) (scene : Scene) (c : ℕ) 
   third_takes : Takes Carrier Two second_takes.now
   third_takes = takes Carrier Two second_takes.now second_takes.down (λ q. absurd (second_takes.busy q))
 
-  puts : host_send second_takes.now scene.from.end conn (payload_of P.to said) (weight_at P) ≡ Ok (third_takes.done, third_takes.now)
+  puts : host_send second_takes.now scene.from.end conn (payload_of P.to said) (weight_at P) ≡ Ok ([], third_takes.now)
   puts = sends second_takes.now scene.from.end conn (payload_of P.to said) (weight_at P) Two (next_id L) second_found h.short has_it h.given ∙ third_takes.did
+      ∙ ap (λ (done : List Step). Ok (done, third_takes.now)) (third_takes.does ∙ none_dialed second_takes.next Two second_takes.now second_takes.busy)
 
   -- the link after all
   link_now : link_with third_takes.now scene.from.end scene.from.peer ≡ record Two { state = third_takes.next; waits = Two.waits ++ Carrier ∷ [] }
@@ -184,12 +196,13 @@ module _ (names : List Name) (apart : AreApart names) (scene : Scene) (c : ℕ) 
 
   pub is_said_first : IsSaidFirst names scene c name conn said
   is_said_first = record {
-    connected = record { steps = first_takes.done; host = first_takes.now };
-    told = record { steps = second_takes.done; host = second_takes.now };
-    put = record { steps = third_takes.done; host = third_takes.now };
+    connected = first_takes.now;
+    told = second_takes.now;
+    host = third_takes.now;
     node_says = says_first N P said conn h.grows h.fresh (ap (λ (z : Target). is_here N (target_at z)) (to_is names apart scene c name conn h.known h.lives h.fresh) ∙ h.away) h.draws;
     host_connects = connects;
     host_tells = tells;
     host_takes = puts;
+    settled = λ q. third_takes.settled (second_takes.settled (first_takes.settled q));
     seen = seen_now;
   }
