@@ -250,15 +250,24 @@ module _ (names : List Name) (scene : Scene) (sock : ℕ) (probed : Bool) (pairs
     index_by false over = lost.index ∙ ap (λ (t : Target). index_lost (is_named t) (bare P.mark) P.index) to_is
 
   mark_now : (d : ℕ) (o : Option Name) → slice_get names d ≡ o → mark_of Now o ≡ mark_lost (named o) (mark_of N o)
-  mark_now d None is = refl
+  mark_now d None is = by_shut N.is_shut where
+    by_shut : (b : Bool) → mark_as b nodes.Unopened ≡ mark_lost false (mark_as b nodes.Unopened)
+    by_shut true = refl
+    by_shut false = refl
   mark_now d (Some name) is = mark_by d name is (has_ended N name.by)
 
   epoch_now : (d : ℕ) (o : Option Name) → slice_get names d ≡ o → epoch_of Now o ≡ epoch_lost (named o) (mark_of N o) (epoch_of N o)
-  epoch_now d None is = refl
+  epoch_now d None is = by_shut N.is_shut where
+    by_shut : (b : Bool) → 0 ≡ epoch_lost false (mark_as b nodes.Unopened) 0
+    by_shut true = refl
+    by_shut false = refl
   epoch_now d (Some name) is = epoch_by d name is (has_ended N name.by) refl
 
   index_now : (d : ℕ) (o : Option Name) → slice_get names d ≡ o → index_of Now o ≡ index_lost (named o) (mark_of N o) (index_of N o)
-  index_now d None is = refl
+  index_now d None is = by_shut N.is_shut where
+    by_shut : (b : Bool) → 0 ≡ index_lost false (mark_as b nodes.Unopened) 0
+    by_shut true = refl
+    by_shut false = refl
   index_now d (Some name) is = index_by d name is (has_ended N name.by) refl
 
   seen_now : view names (broken_in scene sock pairs) ≡ after Break V

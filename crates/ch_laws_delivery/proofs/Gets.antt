@@ -1,31 +1,34 @@
--- A message that is read for a process that lives is got, as the passage's move says.
-use Rattle.std.specs.Prelude.{◌≡◌, ℕ, ◌+◌, ◌-◌, false, not, ◌&&◌, ◌==◌, List, [], ◌∷◌, find, nat_lt, slice_get, Option, Some, None, Ok, Err, if◌then◌else◌}
-use Rattle.std.specs.Option.{option_map_or}
+-- A message that is read is got by who stands for its target, or by nobody, as the passage's move says.
+use Rattle.std.specs.Prelude.{◌≡◌, ℕ, ◌+◌, ◌-◌, Bool, true, false, not, ◌&&◌, ◌==◌, List, [], ◌∷◌, find, nat_lt, slice_get, Option, Some, None, Ok, Err, if◌then◌else◌}
+use Rattle.std.specs.Option.{option_map, option_map_or}
 use Rattle.std.proofs.Common.{refl, ap, sym, ◌∙◌, arith}
 use Rattle.std.proofs.lemmas.Bool.Decides.{nat_tests}
+use Rattle.ch_base.specs.AddressValues.{AddressValue}
 use Rattle.ch_base.specs.declared.event.Event.TheVariants as events
 use Rattle.ch_ident.specs.declared.identifier.ProcessId.{ProcessId}
+use Rattle.ch_ident.specs.declared.message.Message.{Message}
 use Rattle.ch_light.specs.declared.TheConstants.{FIRST_ID}
 use Rattle.ch_light.specs.declared.Connection.{Connection}
 use Rattle.ch_light.specs.declared.error.LightError.TheVariants.{NotOpen}
-use Rattle.ch_light.specs.Ids.{open_number, conn_of}
+use Rattle.ch_light.specs.Ids.{opened, open_number, conn_of}
 use Rattle.ch_mail.specs.declared.life.Life.{Life}
 use Rattle.ch_mail.specs.Lives.{is_over}
 use Rattle.ch_mail.specs.Process.{Process}
+use Rattle.ch_mail.specs.Mail.{put_of}
 use Rattle.ch_static.specs.declared.target.Target.{Target}
 use Rattle.ch_static.specs.declared.target.Target.TheVariants as targets
 use Rattle.ch_wire.specs.declared.frame.Frame.TheVariants as frames
 use Rattle.ch_model.specs.declared.act.Act.TheVariants as acts
 use Rattle.ch_model.specs.declared.note.Note.TheVariants as notes
 use Rattle.ch_model.specs.declared.step.Step.TheVariants as steps
-use Rattle.ch_model.specs.HostState.{Socket}
+use Rattle.ch_model.specs.HostState.{Link, Socket, HostState}
 use Rattle.ch_model.specs.HostItems.{reads_frame, receives}
 use Rattle.ch_model.specs.NodeState as nodes
 use Rattle.ch_model.specs.NodeState.{NodeState, Arrived}
-use Rattle.ch_model.specs.NodeIds.{is_own, life_here, is_living, has_port, is_port_here}
+use Rattle.ch_model.specs.NodeIds.{is_own, life_here, is_living, has_port, is_port_here, target_at}
 use Rattle.ch_model.specs.NodeAsks.{standing}
-use Rattle.ch_model.specs.NodeSends.{got_put, get, deliver}
-use Rattle.ch_model.specs.NodeArrivals.{to_target, received_as, received_on, received}
+use Rattle.ch_model.specs.NodeSends.{got_put, get, get_standing, deliver}
+use Rattle.ch_model.specs.NodeArrivals.{to_name, to_target, received_as, received_on, received}
 use Rattle.ch_model.specs.Node.{node_event}
 use Rattle.ch_delivery.specs.Passage.{Item, Binding, Void, Bound, Unknown, Got, Passage, is_some}
 use Rattle.ch_delivery.specs.Moves as moves
@@ -33,7 +36,8 @@ use Rattle.ch_delivery.specs.Moves.{Read, put, noted, after}
 use Rattle.ch_laws_delivery.specs.Scene.{Name, Scene, link_of}
 use Rattle.ch_laws_delivery.specs.Receiving.{if_living, stands_for, standing_for, binding_of, of_arrived, of_created, place_for, at_place}
 use Rattle.ch_laws_delivery.specs.View.{view}
-use Rattle.ch_laws_delivery.specs.Receipts.{Reading, ReadsFirst, node_after, got_in, IsGot}
+use Rattle.ch_laws_delivery.specs.Receipts.{stands_at, port_of, bound_as, Carries, Reading, ReadsFirst, node_after, got_in, IsGot}
+use Rattle.ch_laws_delivery.proofs.Places.{some_is, nothing_is}
 use Rattle.ch_laws_delivery.proofs.Mails.{Unmoved, put_unmoved}
 use Rattle.ch_laws_delivery.proofs.Alike.{sending_alike}
 
@@ -80,13 +84,68 @@ module _ (n : NodeState) (mail : List Process) (same : Unmoved n.mail mail) wher
   place_same created None = refl
   place_same created (Some place) = created_same (slice_get created place)
 
--- ---- the message
+-- ---- the payload
 
 not_below : (a b : ℕ) → nat_lt (a + b) a ≡ false
 not_below a b = grind (arith, nat_tests)
 
 less_first : (a b : ℕ) → (a + b) - a ≡ b
 less_first a b = omega arith
+
+-- the host tells the node that it came on an open connection
+pub tells_data : (socket : Socket) (link : Link) (place conn : ℕ) (payload : List ℕ) (host : HostState) → slice_get link.created place ≡ Some (opened conn)
+    → reads_frame socket link (frames.Data (FIRST_ID + place) payload) host ≡ Ok (steps.Post link.end (events.Received conn payload) ∷ [], host)
+unfolding conn_of
+tells_data socket link place conn payload host there =
+    ap (λ b. receives socket link payload (if b then Err NotOpen else open_number (slice_get link.created ((FIRST_ID + place) - FIRST_ID))) host) (not_below FIRST_ID place)
+    ∙ ap (λ (i : ℕ). receives socket link payload (open_number (slice_get link.created i)) host) (less_first FIRST_ID place)
+    ∙ ap (λ (o : Option Connection). receives socket link payload (open_number o) host) there
+
+-- ---- somebody stands for its target
+
+stands_is : (n : NodeState) (to : Target) → stands_for n to ≡ option_map (λ p. p.counter) (stands_at n to)
+stands_is n (targets.Named at name) = refl
+stands_is n (targets.Process p) = by_living (is_living n p) where
+  by_living : (b : Bool) → (if b then Some p.counter else None) ≡ option_map (λ (z : ProcessId). z.counter) (if b then Some p else None)
+  by_living true = refl
+  by_living false = refl
+stands_is n (targets.Port q) = by_both (is_port_here n q) (is_living n q.process) where
+  by_both : (b c : Bool) → (if b then (if c then Some q.process.counter else None) else None) ≡ option_map (λ (z : ProcessId). z.counter) (if b then (if c then Some q.process else None) else None)
+  by_both true true = refl
+  by_both true false = refl
+  by_both false true = refl
+  by_both false false = refl
+
+-- the process of a target that isn't a name is who stands for it
+process_is : (b : Bool) (p receiver : ProcessId) → (if b then Some p else None) ≡ Some receiver → p ≡ receiver
+process_is true p receiver h = some_is p receiver h
+process_is false p receiver h = nothing_is receiver h
+
+owner_is : (b c : Bool) (p receiver : ProcessId) → (if b then (if c then Some p else None) else None) ≡ Some receiver → p ≡ receiver
+owner_is true c p receiver h = process_is c p receiver h
+owner_is false c p receiver h = nothing_is receiver h
+
+got_by : (n : NodeState) (from : ProcessId) (to : Target) (p receiver : ProcessId) (port : Option ℕ) (said : Message) (mail : List Process) → p ≡ receiver → put_of n.mail receiver.counter port said ≡ Ok mail
+    → get n from to p port said ≡ Ok (acts.Note (notes.Got from to (Some receiver)) ∷ [], record n { mail = mail })
+unfolding get
+got_by n from to p receiver port said mail same fits = ap (λ (z : ProcessId). got_put n from to z (put_of n.mail z.counter port said)) same ∙ ap (got_put n from to receiver) fits
+
+gets_at : (n : NodeState) (arrived : Arrived) (payload : List ℕ) (from : ProcessId) (to : Target) (said : Message) (receiver : ProcessId) (mail : List Process) → target_at to ≡ n.own → stands_at n to ≡ Some receiver
+    → Carries to payload said → put_of n.mail receiver.counter (port_of to) said ≡ Ok mail → received_as n arrived payload (bound_as from to) ≡ Ok (acts.Note (notes.Got from to (Some receiver)) ∷ [], record n { mail = mail })
+unfolding deliver
+gets_at n arrived payload from (targets.Process p) said receiver mail here stands read fits =
+    ap (to_target n from (targets.Process p)) read ∙ got_by n from (targets.Process p) p receiver None said mail (process_is (is_living n p) p receiver stands) fits
+gets_at n arrived payload from (targets.Port q) said receiver mail here stands read fits =
+    ap (to_target n from (targets.Port q)) read ∙ got_by n from (targets.Port q) q.process receiver (Some q.port) said mail (owner_is (is_port_here n q) (is_living n q.process) q.process receiver stands) fits
+gets_at n arrived payload from (targets.Named at name) said receiver mail here stands read fits =
+    ap (to_name n from) read ∙ ap (get_standing n from (targets.Named n.own name) said) stands
+    ∙ ap (λ (z : AddressValue). get n from (targets.Named z name) receiver None said) (sym here)
+    ∙ got_by n from (targets.Named at name) receiver receiver None said mail refl fits
+
+bound_there : (n : NodeState) (from : ProcessId) (to : Target) (receiver : ProcessId) → stands_at n to ≡ Some receiver → binding_of n (bound_as from to) ≡ Bound
+bound_there n from (targets.Named at name) receiver stands = refl
+bound_there n from (targets.Process p) receiver stands = ap (λ (o : Option ℕ). if is_some o then Bound else Void) (stands_is n (targets.Process p) ∙ ap (option_map (λ z. z.counter)) stands)
+bound_there n from (targets.Port q) receiver stands = ap (λ (o : Option ℕ). if is_some o then Bound else Void) (stands_is n (targets.Port q) ∙ ap (option_map (λ z. z.counter)) stands)
 
 module _ (names : List Name) (scene : Scene) (name : Name) (rest : List Item) (r : Reading) (h : ReadsFirst names scene name rest r) where
   abbrev N : NodeState
@@ -98,27 +157,17 @@ module _ (names : List Name) (scene : Scene) (name : Name) (rest : List Item) (r
   abbrev Table : List Connection
   Table = (link_of scene.to).created
 
-  tells : (socket : Socket) → reads_frame socket (link_of scene.to) (frames.Data (FIRST_ID + r.place) r.payload) scene.to.host ≡ Ok (steps.Post (link_of scene.to).end (events.Received r.conn r.payload) ∷ [], scene.to.host)
-  unfolding conn_of
-  tells socket = ap (λ b. receives socket (link_of scene.to) r.payload (if b then Err NotOpen else open_number (slice_get Table ((FIRST_ID + r.place) - FIRST_ID))) scene.to.host) (not_below FIRST_ID r.place)
-      ∙ ap (λ (i : ℕ). receives socket (link_of scene.to) r.payload (open_number (slice_get Table i)) scene.to.host) (less_first FIRST_ID r.place)
-      ∙ ap (λ (o : Option Connection). receives socket (link_of scene.to) r.payload (open_number o) scene.to.host) h.created
-
-  gets : node_event N (events.Received r.conn r.payload) ≡ Ok (acts.Note (notes.Got r.from (targets.Process r.to) (Some r.to)) ∷ [], node_after N r)
-  unfolding node_event received deliver get
+  gets : node_event N (events.Received r.conn r.payload) ≡ Ok (acts.Note (notes.Got r.from r.to (Some r.receiver)) ∷ [], node_after N r)
+  unfolding node_event received
   gets = ap (received_on N r.payload) h.arrival
       ∙ ap (received_as N r.arrived r.payload) h.bound
-      ∙ ap (to_target N r.from (targets.Process r.to)) h.read
-      ∙ ap (got_put N r.from (targets.Process r.to) r.to) h.fits
-
-  living : if_living N r.to ≡ Some r.to.counter
-  living = ap (λ b. if b then Some r.to.counter else None) h.lives
+      ∙ gets_at N r.arrived r.payload r.from r.to r.said r.receiver r.mail h.here h.stands h.read h.fits
 
   bound_is : V.bound r.pair r.epoch ≡ Bound
-  bound_is = ap (at_place N Table) h.used ∙ ap (of_created N) h.created ∙ ap (of_arrived N) h.arrival ∙ ap (binding_of N) h.bound ∙ ap (λ (o : Option ℕ). if is_some o then Bound else Void) living
+  bound_is = ap (at_place N Table) h.used ∙ ap (of_created N) h.created ∙ ap (of_arrived N) h.arrival ∙ ap (binding_of N) h.bound ∙ bound_there N r.from r.to r.receiver h.stands
 
-  stands_is : V.stands r.pair ≡ Some r.to.counter
-  stands_is = ap (standing_for N) h.known ∙ ap (stands_for N) h.target ∙ living
+  receiver_is : V.stands r.pair ≡ Some r.receiver.counter
+  receiver_is = ap (standing_for N) h.known ∙ ap (stands_for N) h.target ∙ stands_is N r.to ∙ ap (option_map (λ z. z.counter)) h.stands
 
   abbrev Rest : Passage
   Rest = record V { flight = put scene.way.at rest scene.way.flight }
@@ -128,13 +177,13 @@ module _ (names : List Name) (scene : Scene) (name : Name) (rest : List Item) (r
   moved = ap (λ (w : List Item). moves.read w V) h.first ∙ ap (λ (b : Binding). moves.got b r.pair r.epoch r.index Rest) bound_is
 
   same : Unmoved N.mail r.mail
-  same = put_unmoved N.mail r.to.counter None r.said r.mail h.fits
+  same = put_unmoved N.mail r.receiver.counter (port_of r.to) r.said r.mail h.fits
 
   seen_now : view names (got_in scene rest r) ≡ after Read V
   seen_now = sending_alike (view names (got_in scene rest r)) (noted (Got r.pair r.epoch r.index (V.stands r.pair)) Rest) refl (λ d. refl) (λ d. refl) (λ d. refl) refl refl refl refl refl refl
       (λ d e. place_same N r.mail same Table (place_for d e scene.created)) (λ d. standing_same N r.mail same (slice_get names d))
-      (ap (λ (o : Option ℕ). Got r.pair r.epoch r.index o ∷ scene.log) (sym stands_is))
+      (ap (λ (o : Option ℕ). Got r.pair r.epoch r.index o ∷ scene.log) (sym receiver_is))
       ∙ sym moved
 
   pub is_got : IsGot names scene rest r
-  is_got = record { host_tells = tells; node_gets = gets; seen = seen_now }
+  is_got = record { host_tells = λ socket. tells_data socket (link_of scene.to) r.place r.conn r.payload scene.to.host h.created; node_gets = gets; seen = seen_now }

@@ -15,12 +15,29 @@ use Rattle.ch_model.specs.declared.step.EndError.{EndError}
 use Rattle.ch_model.specs.declared.step.Step.{Step}
 use Rattle.ch_model.specs.declared.step.Step.TheVariants as steps
 use Rattle.ch_model.specs.declared.step.Weight.{Weight}
-use Rattle.ch_model.specs.HostState.{Link, HostState}
-use Rattle.ch_model.specs.HostSteps.{after_steps, is_link, link_with, with_link, store_link, with_socket}
+use Rattle.ch_model.specs.HostState.{Link, Socket, HostState}
+use Rattle.ch_model.specs.HostSteps.{after_steps, is_link, link_with, with_link, store_link, is_socket, store_socket, with_socket}
 use Rattle.ch_model.specs.HostWrites.{is_up}
 use Rattle.ch_model.specs.HostLinks.{most_dials, next_dial, dialed, hears}
 use Rattle.ch_model.specs.HostCalls.{◌>>=◌, stepped, found_or, short_enough, has_room, carries, puts_and_wants, host_send}
+use Rattle.ch_model.specs.Host.{is_ready, lower, first_ready}
+use Rattle.ch_laws_delivery.specs.Sends.{dial_steps, IsSettled}
 use Rattle.ch_laws_delivery.proofs.Keys.{link_test, link_kept}
+
+-- a socket of which nothing can be read is kept
+unready_kept : (socket : Socket) → is_ready socket ≡ false → (sockets : List Socket) → first_ready sockets ≡ None → first_ready (store_socket socket sockets) ≡ None
+unready_kept socket off [] h = ap (λ b. if b then Some (lower socket None) else None) off
+unready_kept socket off (known ∷ rest) h = by_ready (is_ready known) refl h (λ q. unready_kept socket off rest q) where
+  some_none : (x : Socket) → Some x ≡ None → ⊥
+  some_none x h = cc
+
+  by_place : (b : Bool) → is_ready known ≡ false → first_ready rest ≡ None → first_ready (store_socket socket rest) ≡ None → first_ready (if b then socket ∷ rest else known ∷ store_socket socket rest) ≡ None
+  by_place true is q later = ap (λ b. if b then Some (lower socket (first_ready rest)) else first_ready rest) off ∙ q
+  by_place false is q later = ap (λ b. if b then Some (lower known (first_ready (store_socket socket rest))) else first_ready (store_socket socket rest)) is ∙ later
+
+  by_ready : (b : Bool) → is_ready known ≡ b → (if b then Some (lower known (first_ready rest)) else first_ready rest) ≡ None → (first_ready rest ≡ None → first_ready (store_socket socket rest) ≡ None) → first_ready (store_socket socket (known ∷ rest)) ≡ None
+  by_ready true is q f = absurd (some_none (lower known (first_ready rest)) q)
+  by_ready false is q f = by_place (is_socket socket.number known) is q (f q)
 
 -- The host takes the item, which waits behind the others; the link is still not up, and by now dials or awaits the peer.
 -- It was kept twice: with the item, and in its new state.
@@ -32,6 +49,8 @@ pub record Takes (item : Frame × Weight) (link : Link) (host : HostState) : Typ
   pub kept : link_with now link.end link.peer ≡ record link { state = next; waits = link.waits ++ item ∷ [] }
   pub down : is_up next ≡ false
   pub busy : next ≡ Idle → ⊥
+  pub does : done ≡ dial_steps link.state link host
+  pub settled : IsSettled host → IsSettled now
   pub links : now.links ≡ store_link (record link { state = next; waits = link.waits ++ item ∷ [] }) (store_link (record link { waits = link.waits ++ item ∷ [] }) host.links)
 
 module _ (end : ℕ) (peer : AddressValue) (waits : List (Frame × Weight)) (given created : List Connection) (item : Frame × Weight) (host : HostState) where
@@ -62,6 +81,8 @@ module _ (end : ℕ) (peer : AddressValue) (waits : List (Frame × Weight)) (giv
     kept = then_kept Idle (Dialing (next_dial host));
     down = refl;
     busy = λ h. not_idle h;
+    does = refl;
+    settled = λ h. unready_kept (dialed (next_dial host) end peer) refl host.sockets h;
     links = refl;
   } where
     not_idle : Dialing (next_dial host) ≡ Idle → ⊥
@@ -78,6 +99,8 @@ module _ (end : ℕ) (peer : AddressValue) (waits : List (Frame × Weight)) (giv
     kept = then_kept (Dialing sock) (Dialing sock);
     down = refl;
     busy = λ h. not_idle h;
+    does = refl;
+    settled = λ h. h;
     links = refl;
   } where
     not_idle : Dialing sock ≡ Idle → ⊥
@@ -93,6 +116,8 @@ module _ (end : ℕ) (peer : AddressValue) (waits : List (Frame × Weight)) (giv
     kept = then_kept AwaitOther AwaitOther;
     down = refl;
     busy = λ h. not_idle h;
+    does = refl;
+    settled = λ h. h;
     links = refl;
   } where
     not_idle : AwaitOther ≡ Idle → ⊥
@@ -158,3 +183,10 @@ module _ (end conn : ℕ) (link : Link) where
     by_test : (b : Bool) → is_link link.end link.peer known ≡ b → (Alone end conn link.end link.peer rest → find (carries end conn) (store_link link rest) ≡ Some link) → find (carries end conn) (cond b (link ∷ rest) (known ∷ store_link link rest)) ≡ Some link
     by_test true is f = ap (λ b. cond b (Some link) (find (carries end conn) rest)) own
     by_test false is f = ap (λ b. cond b (Some known) (find (carries end conn) (store_link link rest))) (a is).0 ∙ f (a is).1
+
+-- a link that isn't idle dials nothing
+pub none_dialed : (state : LinkState) (link : Link) (host : HostState) → (state ≡ Idle → ⊥) → dial_steps state link host ≡ []
+none_dialed Idle link host busy = absurd (busy refl)
+none_dialed (Dialing sock) link host busy = refl
+none_dialed AwaitOther link host busy = refl
+none_dialed (Up sock probed) link host busy = refl

@@ -56,8 +56,8 @@ given_like process port said given h = by_life (is_over process.life) h where
   by_life false h = by_put (appended process port said) refl h
 
 -- the mail where a process is another like it
-module _ (mail : List Process) (n : ℕ) (process given : Process) (there : slice_get mail n ≡ Some process) (like : Like given process) where
-  read_same : {X : Type 0} (f : Process → X) → f given ≡ f process → (i : ℕ) → option_map f (slice_get (slice_set mail n given) i) ≡ option_map f (slice_get mail i)
+module _ (mail : List Process) (n : ℕ) (process given : Process) (there : slice_get mail n ≡ Some process) where
+  pub read_same : {X : Type 0} (f : Process → X) → f given ≡ f process → (i : ℕ) → option_map f (slice_get (slice_set mail n given) i) ≡ option_map f (slice_get mail i)
   read_same {X = X} f same i = by_place (nat_eq i n) refl where
     one : (i n : ℕ) → nat_eq i n ≡ true → i ≡ n
     one i n h = grind (arith, nat_tests)
@@ -88,9 +88,9 @@ unfolding put_of life_of has_port
 put_unmoved mail n port said now h = by_there (slice_get mail n) refl h where
   changed : (process given : Process) → slice_get mail n ≡ Some process → Like given process → slice_set mail n given ≡ now → Unmoved mail now
   changed process given there like is = subst (Unmoved mail) is (record {
-    life = read_same mail n process given there like (λ p. p.life) like.life;
+    life = read_same mail n process given there (λ p. p.life) like.life;
     ports = λ i number. or_false (λ p. nat_lt number (length p.ports)) (slice_get (slice_set mail n given) i)
-        ∙ ap (λ o. option_map_or (λ b. b) o false) (read_same mail n process given there like (λ p. nat_lt number (length p.ports)) (ap (nat_lt number) like.ports) i)
+        ∙ ap (λ o. option_map_or (λ b. b) o false) (read_same mail n process given there (λ p. nat_lt number (length p.ports)) (ap (nat_lt number) like.ports) i)
         ∙ sym (or_false (λ p. nat_lt number (length p.ports)) (slice_get mail i));
   })
 

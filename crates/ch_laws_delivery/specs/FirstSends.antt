@@ -12,7 +12,6 @@ use Rattle.ch_wire.specs.declared.frame.Frame.TheVariants as frames
 use Rattle.ch_model.specs.declared.act.Act.{Act}
 use Rattle.ch_model.specs.declared.act.Act.TheVariants as acts
 use Rattle.ch_model.specs.declared.note.Note.TheVariants as notes
-use Rattle.ch_model.specs.declared.step.Step.{Step}
 use Rattle.ch_model.specs.declared.step.Weight.{Weight}
 use Rattle.ch_model.specs.declared.step.Weight.TheVariants.{Free}
 use Rattle.ch_model.specs.HostState.{Link, HostState}
@@ -30,7 +29,7 @@ use Rattle.ch_delivery.specs.Passage.{Said}
 use Rattle.ch_delivery.specs.Moves.{Say, after}
 use Rattle.ch_laws_delivery.specs.Scene.{Name, Use, Scene, link_of}
 use Rattle.ch_laws_delivery.specs.Sending.{has_ended, pair_at}
-use Rattle.ch_laws_delivery.specs.Sends.{weight_at}
+use Rattle.ch_laws_delivery.specs.Sends.{weight_at, dial_steps, IsSettled}
 use Rattle.ch_laws_delivery.specs.View.{view}
 
 -- the frame is on an id that was given
@@ -97,19 +96,15 @@ first_in scene c pair conn host = record scene {
   log = Said c pair.epoch pair.index ∷ scene.log;
 }
 
--- what a call of a host gave: its steps, and the host after it
-pub record Called : Type 0 where
-  pub steps : List Step
-  pub host : HostState
-
--- The node says it, the host opens the connection and takes both payloads, and what is seen then is the passage after the
--- move.
+-- The node says it, the host opens the connection and takes both payloads, it dials where nobody does, nothing more can be
+-- read than before, and what is seen then is the passage after the move.
 pub record IsSaidFirst (names : List Name) (scene : Scene) (c : ℕ) (name : Name) (conn : ℕ) (said : Message) : Type 0 where
-  pub connected : Called
-  pub told : Called
-  pub put : Called
+  pub connected : HostState
+  pub told : HostState
+  pub host : HostState
   pub node_says : say scene.from.node (pair_at scene.from.node name) said ≡ Ok (first_acts scene.from.node (pair_at scene.from.node name) conn said, first_after scene.from.node (pair_at scene.from.node name) conn)
-  pub host_connects : host_connect scene.from.host scene.from.end (target_at (pair_at scene.from.node name).to) conn ≡ Ok (connected.steps, connected.host)
-  pub host_tells : host_send connected.host scene.from.end conn (opening_of scene.from.node (pair_at scene.from.node name)) Free ≡ Ok (told.steps, told.host)
-  pub host_takes : host_send told.host scene.from.end conn (payload_of (pair_at scene.from.node name).to said) (weight_at (pair_at scene.from.node name)) ≡ Ok (put.steps, put.host)
-  pub seen : view names (first_in scene c (pair_at scene.from.node name) conn put.host) ≡ after (Say c) (view names scene)
+  pub host_connects : host_connect scene.from.host scene.from.end (target_at (pair_at scene.from.node name).to) conn ≡ Ok (dial_steps (link_of scene.from).state (link_of scene.from) scene.from.host, connected)
+  pub host_tells : host_send connected scene.from.end conn (opening_of scene.from.node (pair_at scene.from.node name)) Free ≡ Ok ([], told)
+  pub host_takes : host_send told scene.from.end conn (payload_of (pair_at scene.from.node name).to said) (weight_at (pair_at scene.from.node name)) ≡ Ok ([], host)
+  pub settled : IsSettled scene.from.host → IsSettled host
+  pub seen : view names (first_in scene c (pair_at scene.from.node name) conn host) ≡ after (Say c) (view names scene)

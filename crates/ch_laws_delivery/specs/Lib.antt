@@ -10,3 +10,17 @@ pub mod Losses
 pub mod Rows
 pub mod Falls
 pub mod Reconnects
+pub mod UpSends
+pub mod UpFirstSends
+pub mod UpReconnects
+pub mod Rises
+pub mod Closings
+pub mod Arrivals
+pub mod Drops
+pub mod Standings
+pub mod ReadingRows
+pub mod Bares
+pub mod Quiets
+pub mod Endings
+pub mod Shuts
+pub mod EndingRows

@@ -20,6 +20,7 @@ use Rattle.ch_laws_delivery.specs.Scene.{Name, Use, Way, Scene}
 use Rattle.ch_laws_delivery.specs.FirstSends.{opening_of}
 use Rattle.ch_laws_delivery.specs.Receipts.{Reading}
 use Rattle.ch_laws_delivery.specs.Openings.{Opening}
+use Rattle.ch_laws_delivery.specs.Closings.{Closing}
 
 -- the addresses of two nodes
 abbrev pub here : AddressValue
@@ -73,6 +74,10 @@ at_start = record {
   log = [];
 }
 
+-- the same, where the sending node is up on socket 0 of its host
+abbrev pub up_at_start : Scene
+up_at_start = record at_start { from = record (at_start.from) { host = host_at here (link_to there (Up 0 false) [] [] ∷ []) } }
+
 -- the pair, with its connection, after one message
 abbrev pub open_pair : Pair
 open_pair = record { by = 0; to = the_name.to; epoch = 0; index = 1; mark = nodes.Opened 0 }
@@ -105,7 +110,7 @@ message_item = items.Message 0 0 0
 
 -- the opening message is read
 abbrev pub the_opening : Opening
-the_opening = record { pair = 0; epoch = 0; payload = opening_of (node_at here) open_pair; from = only here; to = only there; place = 0; conn = 1; arrived = arrived_as nodes.Unread }
+the_opening = record { pair = 0; epoch = 0; payload = opening_of (node_at here) open_pair; from = only here; to = the_name.to; place = 0; conn = 1; arrived = arrived_as nodes.Unread }
 
 -- and then the message
 abbrev pub bound_there : nodes.Bound
@@ -119,9 +124,14 @@ the_reading = record {
   payload = spelling.user hello;
   said = hello;
   from = only here;
-  to = only there;
+  to = the_name.to;
+  receiver = only there;
   place = 0;
   conn = 1;
   arrived = arrived_as bound_there;
   mail = record { life = Live; mailbox = hello ∷ []; ports = [] } ∷ [];
 }
+
+-- and later the close
+abbrev pub the_closing : Closing
+the_closing = record { pair = 0; epoch = 0; place = 0; conn = 1 }

@@ -1,5 +1,5 @@
 -- The sending node as a passage sees it: the marks of its pairs, and what waits for its link.
-use Rattle.std.specs.Prelude.{ℕ, ◌-◌, Bool, true, false, List, [], ◌∷◌, slice_get, Option, Some, None, nat_lt, if◌then◌else◌}
+use Rattle.std.specs.Prelude.{ℕ, ◌-◌, Bool, true, false, ◌||◌, List, [], ◌∷◌, slice_get, Option, Some, None, nat_lt, if◌then◌else◌}
 use Rattle.std.specs.List.{flat_map}
 use Rattle.std.specs.Option.{option_map_or}
 use Rattle.ch_wire.specs.declared.frame.Frame.{Frame}
@@ -31,8 +31,12 @@ named None = false
 named (Some name) = is_named name.to
 
 -- the process was made, and is over
+abbrev pub is_over_at : NodeState → ℕ → Bool
+is_over_at node by = option_map_or is_over (life_of node.mail by) false
+
+-- nothing comes from the process any more: it is over, or the node is shut
 abbrev pub has_ended : NodeState → ℕ → Bool
-has_ended node by = option_map_or is_over (life_of node.mail by) false
+has_ended node by = node.is_shut || is_over_at node by
 
 -- a mark without its connection
 abbrev pub bare : nodes.Mark → Mark
@@ -40,7 +44,7 @@ bare nodes.Unopened = Unopened
 bare (nodes.Opened conn) = Opened
 bare nodes.Broken = Broken
 
--- a pair's mark, by whether its process is over
+-- a pair's mark, by whether nothing comes from its process any more
 abbrev pub mark_as : Bool → nodes.Mark → Mark
 mark_as true mark = Ended
 mark_as false mark = bare mark
@@ -51,7 +55,7 @@ pair_at node name = pair_of node.pairs name.by name.to
 
 -- the mark, the epoch and the next index of a pair, which are those of a new one where none has that number
 abbrev pub mark_of : NodeState → Option Name → Mark
-mark_of node None = Unopened
+mark_of node None = mark_as node.is_shut nodes.Unopened
 mark_of node (Some name) = mark_as (has_ended node name.by) (pair_at node name).mark
 
 abbrev pub epoch_of : NodeState → Option Name → ℕ

@@ -1,15 +1,19 @@
 -- A message that is said on an open connection while the link isn't up.
-use Rattle.std.specs.Prelude.{◌≡◌, ℕ, true, false, List, [], ◌∷◌, find, slice_get, nat_lt, Some, Ok}
+use Rattle.std.specs.Prelude.{◌≡◌, ℕ, true, false, List, [], ◌∷◌, find, slice_get, nat_lt, Some, None, Ok}
 use Rattle.ch_ident.specs.declared.message.Message.{Message}
 use Rattle.ch_light.specs.Ids.{id_of}
 use Rattle.ch_model.specs.declared.act.Act.{Act}
 use Rattle.ch_model.specs.declared.act.Act.TheVariants as acts
 use Rattle.ch_model.specs.declared.note.Note.TheVariants as notes
+use Rattle.ch_link.specs.declared.LinkState.{LinkState}
+use Rattle.ch_link.specs.declared.LinkState.TheVariants.{Idle}
 use Rattle.ch_model.specs.declared.step.Step.{Step}
+use Rattle.ch_model.specs.declared.step.Step.TheVariants as steps
 use Rattle.ch_model.specs.declared.step.Weight.{Weight}
-use Rattle.ch_model.specs.HostState.{HostState}
+use Rattle.ch_model.specs.HostState.{Link, HostState}
 use Rattle.ch_model.specs.HostWrites.{is_up}
-use Rattle.ch_model.specs.HostLinks.{most_dials}
+use Rattle.ch_model.specs.HostLinks.{most_dials, next_dial}
+use Rattle.ch_model.specs.Host.{first_ready}
 use Rattle.ch_model.specs.HostCalls.{carries, short_enough, has_room, host_send}
 use Rattle.ch_model.specs.NodeState as nodes
 use Rattle.ch_model.specs.NodeState.{NodeState, Pair}
@@ -47,14 +51,24 @@ pub record SaysOnOpen (names : List Name) (scene : Scene) (c : ℕ) (name : Name
 abbrev pub acts_of : NodeState → Pair → ℕ → Message → List Act
 acts_of node pair conn said = acts.Note (notes.Said (process_id node pair.by) pair.to pair.epoch pair.index said) ∷ acts.Put conn (payload_of pair.to said) (weight_at pair) ∷ []
 
+-- what the host does with a payload that waits: it dials, where nobody does
+abbrev pub dial_steps : LinkState → Link → HostState → List Step
+dial_steps Idle link host = steps.Dial (next_dial host) link.end link.peer ∷ []
+dial_steps state link host = []
+
+-- no whole item of a host's sockets is unread
+abbrev pub IsSettled : HostState → Type 0
+IsSettled host = first_ready host.sockets ≡ None
+
 -- the scene after it, where the host is this
 abbrev pub said_in : Scene → ℕ → Pair → HostState → Scene
 said_in scene c pair host = record scene { from = record (scene.from) { node = keeping scene.from.node (with_said pair); host = host }; log = Said c pair.epoch pair.index ∷ scene.log }
 
--- The node says it, the host takes it, and what is seen then is the passage after the move.
+-- The node says it, the host takes it and dials where nobody does, nothing more can be read than before, and what is seen
+-- then is the passage after the move.
 pub record IsSaid (names : List Name) (scene : Scene) (c : ℕ) (name : Name) (conn : ℕ) (said : Message) : Type 0 where
-  pub steps : List Step
   pub host : HostState
   pub node_says : say scene.from.node (pair_at scene.from.node name) said ≡ Ok (acts_of scene.from.node (pair_at scene.from.node name) conn said, keeping scene.from.node (with_said (pair_at scene.from.node name)))
-  pub host_takes : host_send scene.from.host scene.from.end conn (payload_of (pair_at scene.from.node name).to said) (weight_at (pair_at scene.from.node name)) ≡ Ok (steps, host)
+  pub host_takes : host_send scene.from.host scene.from.end conn (payload_of (pair_at scene.from.node name).to said) (weight_at (pair_at scene.from.node name)) ≡ Ok (dial_steps (link_of scene.from).state (link_of scene.from) scene.from.host, host)
+  pub settled : IsSettled scene.from.host → IsSettled host
   pub seen : view names (said_in scene c (pair_at scene.from.node name) host) ≡ after (Say c) (view names scene)

@@ -14,6 +14,7 @@ use Rattle.ch_model.specs.NodeIds.{target_at, is_living, life_here, is_own}
 use Rattle.ch_model.specs.NodePairs.{pair_of, is_pair, same_target, same_process, lost_pair}
 use Rattle.ch_model.specs.NodeConnections.{drawn}
 use Rattle.ch_laws_delivery.specs.Scene.{Name}
+use Rattle.ch_link.specs.Table.{step_of}
 use Rattle.ch_link.specs.declared.LinkState.TheVariants.{Up}
 use Rattle.ch_laws_delivery.specs.Sending.{has_ended}
 use Rattle.ch_laws_delivery.specs.Rows.{the_name, the_names, there, said_once}
@@ -118,11 +119,12 @@ returns-clause-reading z = record {
   first = refl;
   known = refl;
   target = refl;
+  here = refl;
   used = refl;
   created = refl;
   arrival = refl;
   bound = refl;
-  lives = refl;
+  stands = refl;
   read = refl;
   fits = refl;
 }
@@ -134,3 +136,47 @@ returns-clause-fall z = record { up = refl; pairs_lost = refl; unwatched = refl 
 pub returns-clause-reconnect : goal.returns-clause-reconnect
 unfolding life_of pair_of is_pair same_target same_process growing id_of same_node close_of
 returns-clause-reconnect z = record { known = refl; lives = refl; opened = refl; grows = refl; carried = refl; down = refl; closes = refl; used = refl }
+
+pub returns-clause-first_up : goal.returns-clause-first_up
+unfolding life_of pair_of growing drawn id_of same_node digits
+returns-clause-first_up z = record {
+  known = refl;
+  lives = refl;
+  fresh = refl;
+  away = refl;
+  at_peer = refl;
+  grows = refl;
+  draws = refl;
+  endpoint = refl;
+  unspent = refl;
+  uncarried = refl;
+  given = refl;
+  level = refl;
+  up = refl;
+  flushed = refl;
+  short_opening = refl;
+  short = refl;
+}
+
+pub returns-clause-second_up : goal.returns-clause-second_up
+unfolding life_of pair_of is_pair same_target same_process growing id_of same_node
+returns-clause-second_up z = record { known = refl; lives = refl; opened = refl; away = refl; grows = refl; carried = refl; up = refl; given = refl; used = refl; short = refl }
+
+pub returns-clause-reconnect_up : goal.returns-clause-reconnect_up
+unfolding life_of pair_of is_pair same_target same_process growing id_of same_node close_of
+returns-clause-reconnect_up z = record { known = refl; lives = refl; opened = refl; grows = refl; carried = refl; up = refl; closes = refl; used = refl }
+
+pub returns-clause-accepted : goal.returns-clause-accepted
+unfolding step_of same_node
+returns-clause-accepted z = record { down = refl; up = refl }
+
+pub returns-clause-asked : goal.returns-clause-asked
+unfolding step_of same_node
+returns-clause-asked z = record { down = refl; up = refl }
+
+pub returns-clause-closing : goal.returns-clause-closing
+unfolding same_node
+returns-clause-closing z = record { first = refl; used = refl; created = refl; alone = λ i known is opens e. first_only i known is } where
+  first_only : (i : ℕ) (known : Connection) → slice_get (opened 1 ∷ []) i ≡ Some known → i ≡ 0
+  first_only zero known is = refl
+  first_only (suc i) known is = none known is
