@@ -1,5 +1,6 @@
 //! The names that a journal declares, in place of the addresses that they stand for, both ways: the
-//! command of a line, in addresses, and the entry of what a node tells, in names.
+//! command of a line, in addresses, and the entry of what a node tells, in names. A name or an address
+//! is looked up in a table, at one cost however many are declared.
 //!
 //! Lines, entries, commands and notes stand below, and the model that says what each call gives. The
 //! world of a journal stands above.

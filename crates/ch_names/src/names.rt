@@ -82,7 +82,7 @@ impl Names {
         Ok(())
     }
 
-    pub(crate) fn alloc(&self) -> Global {
+    fn alloc(&self) -> Global {
         *self.rows.allocator()
     }
 
@@ -217,7 +217,8 @@ impl Names {
         }
     }
 
-    /// The host texts of the nodes, in order of declaration. It walks all names.
+    /// The host texts of the nodes, in order of declaration; one that several nodes have stands as often.
+    /// It walks all names.
     pub fn node_hosts(&self) -> Result<Vec<Text>, OutOfMemory>
         ensures { IfOk result (λ hosts. hosts.items ≡ map (λ n. n.address.host) (filter (λ n. n.is_node) self.now)) }
     {
