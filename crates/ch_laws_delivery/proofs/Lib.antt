@@ -31,3 +31,4 @@ pub mod Tells
 pub mod Overs
 pub mod Farewells
 pub mod Shuts
+pub mod Cells

@@ -65,5 +65,6 @@ module _ (names : List Name) (apart : AreApart names) (scene : Scene) (c : ℕ) 
     node_says = says_it N P said conn h.grows h.opened (ap (λ (z : Target). is_here N (target_at z)) (to_is names apart scene c name (nodes.Opened conn) h.known h.lives h.opened) ∙ h.away);
     host_takes = sends scene.from.host scene.from.end conn (payload_of P.to said) (weight_at P) (link_of scene.from) id h.carried h.short h.room h.given ∙ taken.did ∙ ap (λ (done : List Step). Ok (done, taken.now)) taken.does;
     settled = taken.settled;
+    down = ap (λ (l : Link). is_up l.state) (link_now ∙ taken.kept) ∙ taken.down;
     seen = seen_now;
   }

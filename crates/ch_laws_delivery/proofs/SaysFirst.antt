@@ -204,5 +204,6 @@ module _ (names : List Name) (apart : AreApart names) (scene : Scene) (c : ℕ) 
     host_tells = tells;
     host_takes = puts;
     settled = λ q. third_takes.settled (second_takes.settled (first_takes.settled q));
+    down = ap (λ (l : Link). is_up l.state) link_now ∙ third_takes.down;
     seen = seen_now;
   }

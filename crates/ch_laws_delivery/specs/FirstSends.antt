@@ -15,6 +15,7 @@ use Rattle.ch_model.specs.declared.note.Note.TheVariants as notes
 use Rattle.ch_model.specs.declared.step.Weight.{Weight}
 use Rattle.ch_model.specs.declared.step.Weight.TheVariants.{Free}
 use Rattle.ch_model.specs.HostState.{Link, HostState}
+use Rattle.ch_model.specs.HostSteps.{link_with}
 use Rattle.ch_model.specs.HostWrites.{is_up, counted_in}
 use Rattle.ch_model.specs.HostLinks.{most_dials}
 use Rattle.ch_model.specs.HostCalls.{open_endpoint, carries, short_enough, most_waiting, host_connect, host_send}
@@ -107,4 +108,5 @@ pub record IsSaidFirst (names : List Name) (scene : Scene) (c : ℕ) (name : Nam
   pub host_tells : host_send connected scene.from.end conn (opening_of scene.from.node (pair_at scene.from.node name)) Free ≡ Ok ([], told)
   pub host_takes : host_send told scene.from.end conn (payload_of (pair_at scene.from.node name).to said) (weight_at (pair_at scene.from.node name)) ≡ Ok ([], host)
   pub settled : IsSettled scene.from.host → IsSettled host
+  pub down : is_up (link_with host scene.from.end scene.from.peer).state ≡ false
   pub seen : view names (first_in scene c (pair_at scene.from.node name) conn host) ≡ after (Say c) (view names scene)

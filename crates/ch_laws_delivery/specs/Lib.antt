@@ -24,3 +24,4 @@ pub mod Quiets
 pub mod Endings
 pub mod Shuts
 pub mod EndingRows
+pub mod Cells

@@ -11,6 +11,7 @@ use Rattle.ch_model.specs.declared.step.Step.{Step}
 use Rattle.ch_model.specs.declared.step.Step.TheVariants as steps
 use Rattle.ch_model.specs.declared.step.Weight.{Weight}
 use Rattle.ch_model.specs.HostState.{Link, HostState}
+use Rattle.ch_model.specs.HostSteps.{link_with}
 use Rattle.ch_model.specs.HostWrites.{is_up}
 use Rattle.ch_model.specs.HostLinks.{most_dials, next_dial}
 use Rattle.ch_model.specs.Host.{first_ready}
@@ -71,4 +72,5 @@ pub record IsSaid (names : List Name) (scene : Scene) (c : ℕ) (name : Name) (c
   pub node_says : say scene.from.node (pair_at scene.from.node name) said ≡ Ok (acts_of scene.from.node (pair_at scene.from.node name) conn said, keeping scene.from.node (with_said (pair_at scene.from.node name)))
   pub host_takes : host_send scene.from.host scene.from.end conn (payload_of (pair_at scene.from.node name).to said) (weight_at (pair_at scene.from.node name)) ≡ Ok (dial_steps (link_of scene.from).state (link_of scene.from) scene.from.host, host)
   pub settled : IsSettled scene.from.host → IsSettled host
+  pub down : is_up (link_with host scene.from.end scene.from.peer).state ≡ false
   pub seen : view names (said_in scene c (pair_at scene.from.node name) host) ≡ after (Say c) (view names scene)

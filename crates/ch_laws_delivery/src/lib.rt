@@ -29,6 +29,8 @@ ghost use Rattle.ch_laws_delivery.specs.UpReconnects.{ReconnectsUp, IsClosed};
 ghost use Rattle.ch_laws_delivery.specs.Bares.{SaysBroken, IsWasted, ReconnectsBare, IsRenewed};
 ghost use Rattle.ch_laws_delivery.specs.Quiets.{Keeps, kept_in};
 ghost use Rattle.ch_laws_delivery.specs.Endings.{Ends, Parting, Parts, IsParted, EndsWith, IsOver};
+ghost use Rattle.ch_model.specs.WorldState.{Cell};
+ghost use Rattle.ch_laws_delivery.specs.Cells.{Sends, SendsFirst, IsSentAt, IsSentFirstAt};
 ghost use Rattle.ch_laws_delivery.specs.Shuts.{IsShut, IsShutThere, IsShutOff};
 ghost use Rattle.ch_laws_delivery.specs.EndingRows.{broken_once, the_parting, over_here};
 ghost use Rattle.ch_laws_delivery.specs.Rises.{ComesUp, IsRisen, IsCome};
@@ -220,6 +222,14 @@ pub fn shut_at_a_node()
     ensures sender { (names : List Name) (scene : Scene) → scene.from.node.is_shut ≡ false → IsShut names scene }
     ensures receiver { (names : List Name) (scene : Scene) → scene.to.node.is_shut ≡ false → IsShutThere names scene }
     ensures off { (names : List Name) (scene : Scene) → scene.to.node.is_shut ≡ false → scene.created ≡ [] → IsShutOff names scene }
+{}
+
+/// A cell in which the sending node is, where no whole item is unread, makes of the command by which a process sends, on an
+/// open connection or as the first of an epoch, while the link isn't up, just that: it answers `ok`, the message is said, the host dials where nobody does;
+/// and what is seen then, with the cell's host and node, is the passage after the move.
+pub fn sent_at_a_cell()
+    ensures later { (names : List Name) → AreApart names → (scene : Scene) (c : ℕ) (name : Name) (conn id : ℕ) (said : Message) → SaysOnOpen names scene c name conn id said → (cell : Cell) → Sends scene name cell → IsSentAt names scene c name said cell }
+    ensures first { (names : List Name) → AreApart names → (scene : Scene) (c : ℕ) (name : Name) (conn : ℕ) (said : Message) → SaysFirst names scene c name conn said → (cell : Cell) → SendsFirst scene name cell → IsSentFirstAt names scene c name conn said cell }
 {}
 
 /// What the laws ask can be had: small scenes, in which a first message is said, and a second, and the pair reconnects; the opening and the first

@@ -1,0 +1,8 @@
+use Rattle.ch_laws_delivery.proofs.Cells.{is_sent_at, is_sent_first_at}
+use Rattle.ch_laws_delivery.proofs.sent_at_a_cell.Goals as goal
+
+pub returns-clause-later : goal.returns-clause-later
+returns-clause-later z = λ names apart scene c name conn id said h cell s. is_sent_at names apart scene c name conn id said h cell s
+
+pub returns-clause-first : goal.returns-clause-first
+returns-clause-first z = λ names apart scene c name conn said h cell s. is_sent_first_at names apart scene c name conn said h cell s
