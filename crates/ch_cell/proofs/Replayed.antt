@@ -13,8 +13,8 @@ use Rattle.ch_cell.specs.Replay.{Replays, IsReplayed}
 
 -- what is replayed to one state, and then one more event, is replayed to the next
 pub one_more : (opening before after : Cell) (history : List Happened) (one : Happened) → Replays opening history before → cell_step before one.event ≡ Ok ((one.made.verdict, one.made.entries), after) → Replays opening (history ++ one ∷ []) after
-one_more opening before after [] one r s = (after, (subst (λ (c : Cell). cell_step c one.event ≡ Ok ((one.made.verdict, one.made.entries), after)) r s, refl))
-one_more opening before after (known ∷ rest) one r s = (r.0, (r.1, one_more r.0 before after rest one r.2 s))
+one_more opening before after [] one r s = (after, subst (λ (c : Cell). cell_step c one.event ≡ Ok ((one.made.verdict, one.made.entries), after)) r s, refl)
+one_more opening before after (known ∷ rest) one r s = (r.0, r.1, one_more r.0 before after rest one r.2 s)
 
 -- after a call the history still leads to the state, unless the call has stopped
 pub stepped : (opening before after : Cell) (history next : List Happened) (failed over : Bool) (event : LocalEvent) (result : Result LocalEntries Stop)

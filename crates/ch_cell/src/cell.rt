@@ -6,7 +6,6 @@ ghost use Rattle.ch_model.specs.Cell.{cell_step};
 ghost use Rattle.ch_cell.specs.Stops.{Stops};
 
 use crate::site::Site;
-use crate::told::copied;
 use ch_base::{OutOfMemory, Stop};
 use ch_model::{Happened, History, LocalEntries, LocalEvent};
 use std::alloc::Global;
@@ -50,7 +49,7 @@ fn note(history: &mut History, event: LocalEvent, made: &LocalEntries) -> Result
     ensures ok { OnOk result (history.new ≡ history.old ++ record { event = event; made = made.now } ∷ []) }
     ensures err { OnErr result (history.new ≡ history.old) }
 {
-    let made = copied(made)?;
+    let made = made.copy()?;
     history.events.push(Happened { event, made })?;
     Ok(())
 }
