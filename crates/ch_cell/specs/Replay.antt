@@ -10,7 +10,5 @@ Replays before [] last = last ≡ before
 Replays before (one ∷ rest) last = (next : Cell) × (cell_step before one.event ≡ Ok ((one.made.verdict, one.made.entries), next)) × Replays next rest last
 
 -- The history is that of the state in which the cell was opened, and leads to the state that it is in, unless it has stopped.
-pub record IsReplayed (failed : Bool) (opening state : Cell) (history : List Happened) : Type 0 where
-  pub last : Cell
-  pub replays : Replays opening history last
-  pub stands : failed ≡ false → state ≡ last
+unfoldable pub IsReplayed : Bool → Cell → Cell → List Happened → Type 0
+IsReplayed failed opening state history = (last : Cell) × Replays opening history last × (failed ≡ false → state ≡ last)

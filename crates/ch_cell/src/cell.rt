@@ -1,6 +1,6 @@
 //! A host with its nodes and the history of what they made of each event.
 
-ghost use Rattle.std.specs.Prelude.{◌≡◌, ◌++◌, ◌∷◌, [], true, false, MatchResult, OnOk, OnErr, IsErrOf, Ok};
+ghost use Rattle.std.specs.Prelude.{◌≡◌, ◌++◌, ◌∷◌, [], true, false, MatchResult, OnOk, OnErr, IsErrOf, Ok, Err, is_err};
 ghost use Rattle.ch_base.specs.declared.memory.Stop.TheVariants as stops;
 ghost use Rattle.ch_model.specs.Cell.{cell_step};
 ghost use Rattle.ch_cell.specs.Stops.{Stops};
@@ -34,7 +34,7 @@ impl Model for Cell {
 }
 
 /// What a site makes of an event, appended to the history.
-fn stepped(site: &mut Site, history: &mut History, event: LocalEvent) -> Result<LocalEntries, Stop>
+fn recorded(site: &mut Site, history: &mut History, event: LocalEvent) -> Result<LocalEntries, Stop>
     ensures does { MatchResult result (λ made. cell_step site.old event ≡ Ok ((made.verdict, made.entries), site.new)) (λ e. Stops e (cell_step site.old event)) }
     ensures told { MatchResult result (λ made. history.new ≡ history.old ++ record { event = event; made = made } ∷ []) (λ _. history.new ≡ history.old) }
 {
@@ -52,6 +52,49 @@ fn note(history: &mut History, event: LocalEvent, made: &LocalEntries) -> Result
     let made = made.copy()?;
     history.events.push(Happened { event, made })?;
     Ok(())
+}
+
+/// What a site makes of an event, appended to the history, and whether it has stopped.
+fn stepped(
+    site: &mut Site,
+    history: &mut History,
+    failed: &mut bool,
+    event: LocalEvent,
+) -> Result<LocalEntries, Stop>
+    ensures does { MatchResult result (λ made. cell_step site.old event ≡ Ok ((made.verdict, made.entries), site.new)) (λ e. Stops e (cell_step site.old event)) }
+    ensures told { MatchResult result (λ made. history.new ≡ history.old ++ record { event = event; made = made } ∷ []) (λ _. history.new ≡ history.old) }
+    ensures flag { failed.new ≡ is_err result }
+{
+    let done = recorded(site, history, event);
+    *failed = done.is_err();
+    done
+}
+
+/// The answer to an event after a stop.
+fn refused(event: LocalEvent) -> Result<LocalEntries, Stop>
+    ensures { result ≡ Err stops.OutOfMemory }
+{
+    let _event = event;
+    Err(Stop::OutOfMemory)
+}
+
+/// The same as `stepped`, unless a call has stopped before.
+fn stepped_unless(
+    site: &mut Site,
+    history: &mut History,
+    failed: &mut bool,
+    event: LocalEvent,
+) -> Result<LocalEntries, Stop>
+    ensures does { MatchResult result (λ made. cell_step site.old event ≡ Ok ((made.verdict, made.entries), site.new)) (λ e. Stops e (cell_step site.old event)) }
+    ensures told { MatchResult result (λ made. history.new ≡ history.old ++ record { event = event; made = made } ∷ []) (λ _. history.new ≡ history.old) }
+    ensures flag { failed.new ≡ is_err result }
+    ensures spent { failed.old ≡ true → IsErrOf result stops.OutOfMemory }
+{
+    if *failed {
+        refused(event)
+    } else {
+        stepped(site, history, failed, event)
+    }
 }
 
 impl Cell {
@@ -79,12 +122,7 @@ impl Cell {
         ensures err { OnErr result (self.new.failed ≡ true) }
         ensures spent { self.old.failed ≡ true → IsErrOf result stops.OutOfMemory }
     {
-        if self.failed {
-            return Err(Stop::OutOfMemory);
-        }
-        let done = stepped(&mut self.site, &mut self.history, event);
-        self.failed = done.is_err();
-        done
+        stepped_unless(&mut self.site, &mut self.history, &mut self.failed, event)
     }
 
     /// The host and its nodes, for what is read of them. It takes no memory.
