@@ -1,6 +1,6 @@
 -- What the network and a line do to a world.
-use Rattle.std.proofs.Common.{◌≡◌, ◌≤◌, ℕ, ◌+◌, ◌*◌, Bool, true, false, cond, not, ◌&&◌, ◌||◌, List, [], ◌∷◌, ◌++◌, length, take, drop, refl, sym, ap, ◌∙◌, subst, arith}
-use Rattle.std.specs.Prelude.{find, Option, Some, None, Result, Ok, Err, slice_get, is_some}
+use Rattle.std.proofs.Common.{◌≡◌, ◌≤◌, ℕ, ◌+◌, ◌*◌, Bool, true, false, cond, ◌&&◌, ◌||◌, List, [], ◌∷◌, ◌++◌, length, take, drop, refl, sym, subst, arith}
+use Rattle.std.specs.Prelude.{find, Option, Some, None, slice_get, is_some}
 use Rattle.ch_model.specs.declared.entry.Entry.TheVariants as entries
 use Rattle.ch_model.specs.declared.line.What.{What}
 use Rattle.ch_model.specs.declared.line.What.TheVariants as lines
@@ -12,13 +12,13 @@ use Rattle.ch_model.specs.declared.name.ProcName.{ProcName}
 use Rattle.ch_model.specs.declared.name.SockName.{SockName}
 use Rattle.ch_model.specs.declared.step.SocketEvent.TheVariants as sockets
 use Rattle.ch_static.specs.declared.command.Command.{Command}
-use Rattle.ch_model.specs.Stages.{Stage, Pending, Open, Ended, is_pending, is_open, is_ended}
+use Rattle.ch_model.specs.Stages.{Stage, Pending, Open, Ended, is_pending, is_ended}
 use Rattle.ch_model.specs.WorldState.{Cell, WorldEnd, WorldSocket, World}
 use Rattle.ch_model.specs.Naming.{address_as, named_as}
 use Rattle.ch_model.specs.Timers.{timer_runs_for}
-use Rattle.ch_model.specs.WorldSockets.{end_of, ended, cut, opened, arrives, is_socket_named, with_socket, with_end_of, end_of_nobody, cell_of, new_socket}
+use Rattle.ch_model.specs.WorldSockets.{end_of, ended, cut, opened, arrives, is_socket_named, with_end_of, end_of_nobody, cell_of}
 use Rattle.ch_model.specs.WorldHappenings.{Answered, nothing, with_cell, cell_hears, end_hears, after_entry, joins, refuses, mark_of, comes_at, comes, hands, feeds, loses, times_out}
-use Rattle.ch_model.specs.WorldLines.{command_as, node_hears, on_socket, can_join, can_come, can_refuse, is_at_work, can_feed, can_cut, cuts, is_strangers, stranger_host, knocks, pokes, quits, other_line, line_done}
+use Rattle.ch_model.specs.WorldLines.{command_as, node_hears, on_socket, can_join, can_come, can_refuse, is_at_work, can_feed, can_cut, cuts, is_strangers, stranger_host, pokes, quits, other_line, line_done}
 use Rattle.ch_laws_world.specs.Grows.{stage_rank, EndGoes, Numbered, Grows}
 use Rattle.ch_laws_world.proofs.Names.{found_name}
 use Rattle.ch_laws_world.proofs.Sockets.{end_stays, rests, onward, end_goes, opened_new, AllGrow, after}

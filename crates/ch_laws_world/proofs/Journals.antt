@@ -1,10 +1,9 @@
 -- Settling, lines and whole journals.
-use Rattle.std.proofs.Common.{◌≡◌, ◌≤◌, ℕ, zero, suc, ◌+◌, Bool, true, false, cond, not, ◌&&◌, ◌==◌, List, [], ◌∷◌, ◌++◌, length, drop, refl, sym, ap, ◌∙◌, subst}
-use Rattle.std.specs.Prelude.{find, Option, Some, None, Result, Ok, Err, is_some, nat_lt}
+use Rattle.std.proofs.Common.{◌≡◌, ℕ, zero, suc, ◌+◌, Bool, true, false, cond, not, ◌&&◌, ◌==◌, List, [], ◌∷◌, ◌++◌, length, drop, refl, sym, ap, subst}
+use Rattle.std.specs.Prelude.{find, Option, Some, None, Ok, Err, is_some, nat_lt}
 use Rattle.std.specs.List.{prefix_len}
 use Rattle.std.specs.Str.{bytes_eq}
 use Rattle.ch_base.specs.declared.address.Address.{Address}
-use Rattle.ch_base.specs.declared.memory.Stop.{Stop}
 use Rattle.ch_model.specs.declared.entry.Entry.{Entry}
 use Rattle.ch_model.specs.declared.line.Line.{Line}
 use Rattle.ch_model.specs.declared.line.What.{What}
@@ -13,10 +12,10 @@ use Rattle.ch_model.specs.declared.name.End.{End}
 use Rattle.ch_model.specs.declared.name.End.TheVariants.{O, T}
 use Rattle.ch_model.specs.declared.name.SockName.{SockName}
 use Rattle.ch_model.specs.Stages.{Stage, Pending, Open, Ended, is_pending}
-use Rattle.ch_model.specs.WorldState.{Cell, WorldEnd, WorldSocket, World}
+use Rattle.ch_model.specs.WorldState.{Cell, WorldSocket, World}
 use Rattle.ch_model.specs.WorldSockets.{end_of, is_socket_named, is_host_of, cell_of}
 use Rattle.ch_model.specs.Timers.{timer_runs_for, all_links}
-use Rattle.ch_model.specs.WorldHappenings.{Answered, joins, refuses, comes, feeds, times_out}
+use Rattle.ch_model.specs.WorldHappenings.{Answered, joins, refuses, feeds, times_out}
 use Rattle.ch_model.specs.WorldLines.{line_done}
 use Rattle.ch_model.specs.Settle.{Happened, happened, opens, is_due, visits, Visit, due_from, Pass, from_start, due_at, due_in, after_visit, after_happened, then_happens, timer_due, timers_due, some_timer_runs, next_visit, see, before_rest, settled_in, weight_of, settles}
 use Rattle.ch_model.specs.World.{◌>>=◌, is_declaration, line_answered, line_settled, event_step, world_step, log_from}

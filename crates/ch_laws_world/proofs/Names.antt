@@ -3,14 +3,14 @@ use Rattle.std.proofs.Common.{◌≡◌, ◌≤◌, ◌<◌, ℕ, ◌+◌, Bool,
 use Rattle.std.proofs.lemmas.Bool.{eqb-true, eq-eqb, and_parts}
 use Rattle.std.proofs.lemmas.Slice.Eq.{bytes_eq-Decides}
 use Rattle.std.proofs.lemmas.List.Sums.{sum_by-cons}
-use Rattle.std.specs.Prelude.{find, count_by, Option, Some, None}
+use Rattle.std.specs.Prelude.{find, count_by, Some, None}
 use Rattle.std.specs.Str.{bytes_eq}
 use Rattle.ch_model.specs.declared.name.SockName.{SockName}
 use Rattle.ch_model.specs.Same.{same_socket}
 use Rattle.ch_model.specs.Naming.{same_ends}
 use Rattle.ch_model.specs.WorldState.{WorldSocket}
-use Rattle.ch_model.specs.WorldSockets.{is_socket_named, store_in}
-use Rattle.ch_laws_world.specs.Grows.{names_of, count_between, NumberedAfter, Numbered}
+use Rattle.ch_model.specs.WorldSockets.{is_socket_named}
+use Rattle.ch_laws_world.specs.Grows.{names_of, count_between, NumberedAfter}
 
 -- ---- tests
 

@@ -1,13 +1,12 @@
 -- How the sockets of a world go on where one is kept in its place or a new one comes.
-use Rattle.std.proofs.Common.{◌≡◌, ◌≤◌, ℕ, ◌+◌, Bool, true, false, cond, List, [], ◌∷◌, ◌++◌, refl, sym, ap, ◌∙◌, subst, arith}
-use Rattle.std.specs.Prelude.{find, count_by, Option, Some, None, Result, Ok, Err}
+use Rattle.std.proofs.Common.{◌≡◌, ◌≤◌, ℕ, Bool, true, false, cond, List, [], ◌∷◌, ◌++◌, refl, sym, ap, ◌∙◌, subst, arith}
+use Rattle.std.specs.Prelude.{find, Option, Some, None, Result, Ok, Err}
 use Rattle.ch_base.specs.declared.address.Address.{Address}
 use Rattle.ch_model.specs.declared.name.End.{End}
 use Rattle.ch_model.specs.declared.name.End.TheVariants.{O, T}
 use Rattle.ch_model.specs.declared.name.SockName.{SockName}
-use Rattle.ch_model.specs.Naming.{same_ends}
 use Rattle.ch_model.specs.WorldState.{WorldEnd, WorldSocket, World}
-use Rattle.ch_model.specs.WorldSockets.{end_of, with_end, is_socket_named, store_in, with_socket, with_end_of, new_socket, next_name}
+use Rattle.ch_model.specs.WorldSockets.{end_of, with_end, is_socket_named, store_in, with_socket, with_end_of, new_socket}
 use Rattle.ch_laws_world.specs.Grows.{stage_rank, EndGoes, SocketGoes, SocketsGo, names_of, count_between, NumberedAfter, Numbered, Grows}
 use Rattle.ch_laws_world.proofs.Names.{found_name, is_count, none_yet, numbered_next}
 
@@ -115,11 +114,11 @@ came_last next world k e = appended next world.sockets (none_yet next.name [] wo
 
 added : (next : WorldSocket) (world : World) → Numbered world.sockets → next.name.number ≡ count_between next.name.from next.name.to (names_of world.sockets) → Grows world (with_socket next world)
 added next world k e = record {
-    names = refl;
-    strangers = refl;
-    homes = refl;
-    sockets = subst (SocketsGo world.sockets) (sym (came_last next world k e)) (sockets_stay world.sockets (next ∷ []));
-    numbered = subst (λ (s : List WorldSocket). NumberedAfter [] (names_of s)) (sym (came_last next world k e)) (subst (NumberedAfter []) (sym (names_appended world.sockets next)) (numbered_next [] (names_of world.sockets) next.name k e));
+  names = refl;
+  strangers = refl;
+  homes = refl;
+  sockets = subst (SocketsGo world.sockets) (sym (came_last next world k e)) (sockets_stay world.sockets (next ∷ []));
+  numbered = subst (λ (s : List WorldSocket). NumberedAfter [] (names_of s)) (sym (came_last next world k e)) (subst (NumberedAfter []) (sym (names_appended world.sockets next)) (numbered_next [] (names_of world.sockets) next.name k e));
 }
 
 pub opened_new : (world : World) (from to from_host : List ℕ) (opener : WorldEnd) (address : Address) → Numbered world.sockets → Grows world (with_socket (new_socket world from to from_host opener address) world)

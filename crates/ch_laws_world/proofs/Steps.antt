@@ -1,17 +1,13 @@
 -- What follows at a cell, told in a world.
-use Rattle.std.proofs.Common.{◌≡◌, ◌≤◌, ℕ, zero, suc, ap, ◌∙◌, ◌+◌, Bool, true, false, cond, ◌||◌, List, [], ◌∷◌, ◌++◌, refl, arith}
-use Rattle.std.specs.Prelude.{find, Option, Some, None, Result, Ok, Err, slice_get, slice_set}
-use Rattle.ch_base.specs.declared.address.Address.{Address}
-use Rattle.ch_base.specs.declared.memory.Stop.{Stop}
+use Rattle.std.proofs.Common.{◌≡◌, ◌≤◌, ℕ, zero, suc, ap, ◌∙◌, Bool, true, false, cond, ◌||◌, List, [], ◌∷◌, ◌++◌, refl, arith}
+use Rattle.std.specs.Prelude.{find, Option, Some, None, Ok, Err, slice_get, slice_set}
 use Rattle.ch_model.specs.declared.entry.Entry.{Entry}
 use Rattle.ch_model.specs.declared.entry.Entry.TheVariants as entries
-use Rattle.ch_model.specs.declared.entry.Verdict.{Verdict}
 use Rattle.ch_model.specs.declared.local.LocalEntry.{LocalEntry}
 use Rattle.ch_model.specs.declared.local.LocalEntry.TheVariants as local
 use Rattle.ch_model.specs.declared.local.LocalEvent.{LocalEvent}
 use Rattle.ch_model.specs.declared.local.LocalEvent.TheVariants as events
 use Rattle.ch_model.specs.declared.name.End.{End}
-use Rattle.ch_model.specs.declared.name.End.TheVariants.{O, T}
 use Rattle.ch_model.specs.declared.name.SockName.{SockName}
 use Rattle.ch_model.specs.declared.step.Place.{Place}
 use Rattle.ch_model.specs.declared.step.SocketEvent.{SocketEvent}
@@ -22,13 +18,13 @@ use Rattle.ch_model.specs.HostSteps.{own_address}
 use Rattle.ch_model.specs.WorldState.{Cell, WorldEnd, WorldSocket, World}
 use Rattle.ch_model.specs.Cell.{Celled, cell_step}
 use Rattle.ch_model.specs.Naming.{called}
-use Rattle.ch_model.specs.WorldSockets.{end_of, other, is_socket_named, ended, item_arrives, end_of_nobody, with_socket, with_end_of, find_end, new_socket}
-use Rattle.ch_model.specs.WorldSteps.{on_end, dials, first_place, later_places, item_is_read, reads_item, end_closes, stepped, local_told, all_told}
+use Rattle.ch_model.specs.WorldSockets.{end_of, other, is_socket_named, ended, item_arrives, end_of_nobody, with_end_of, find_end}
+use Rattle.ch_model.specs.WorldSteps.{on_end, first_place, later_places, item_is_read, reads_item, end_closes, stepped, local_told, all_told}
 use Rattle.ch_model.specs.WorldHappenings.{Answered, nothing, with_cell, cell_told, cell_hears, end_hears, after_entry}
 use Rattle.ch_laws_items.specs.Stays.{Who, CellStays}
 use Rattle.ch_laws_items.proofs.Seats.{cell_after}
 use Rattle.ch_laws_world.specs.Grows.{stage_rank, EndGoes, Home, home_of, homes_of, Numbered, Grows}
-use Rattle.ch_laws_world.proofs.Sockets.{end_stays, rests, onward, end_goes, opened_new, AllGrow, after}
+use Rattle.ch_laws_world.proofs.Sockets.{end_stays, rests, onward, end_goes, opened_new, AllGrow}
 
 -- ---- ends
 

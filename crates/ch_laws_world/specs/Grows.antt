@@ -1,5 +1,5 @@
 -- What lines leave of a world, and how its sockets go on.
-use Rattle.std.specs.Prelude.{◌≡◌, ◌≤◌, ℕ, List, [], ◌∷◌, ◌++◌, Option, Result, Ok, Err, if◌then◌else◌, ◌+◌}
+use Rattle.std.specs.Prelude.{◌≡◌, ◌≤◌, ℕ, List, [], ◌∷◌, ◌++◌, if◌then◌else◌, ◌+◌}
 use Rattle.ch_model.specs.declared.name.SockName.{SockName}
 use Rattle.ch_model.specs.Stages.{Stage, Pending, Open, Ended}
 use Rattle.ch_model.specs.Naming.{same_ends}
