@@ -4,6 +4,7 @@ ghost use Rattle.std.specs.Prelude.{◌≡◌, ◌++◌, ◌∷◌, [], true, fa
 ghost use Rattle.ch_base.specs.declared.memory.Stop.TheVariants as stops;
 ghost use Rattle.ch_model.specs.Cell.{cell_step};
 ghost use Rattle.ch_cell.specs.Stops.{Stops};
+ghost use Rattle.ch_cell.specs.Replay.{Answers, Told};
 
 use crate::site::Site;
 use ch_base::{OutOfMemory, Stop};
@@ -34,9 +35,10 @@ impl Model for Cell {
 }
 
 /// What a site makes of an event, appended to the history.
+#[tactic(auto, unfolding(crate::specs::Replay::Answers, crate::specs::Replay::Told))]
 fn recorded(site: &mut Site, history: &mut History, event: LocalEvent) -> Result<LocalEntries, Stop>
-    ensures does { MatchResult result (λ made. cell_step site.old event ≡ Ok ((made.verdict, made.entries), site.new)) (λ e. Stops e (cell_step site.old event)) }
-    ensures told { MatchResult result (λ made. history.new ≡ history.old ++ record { event = event; made = made } ∷ []) (λ _. history.new ≡ history.old) }
+    ensures does { Answers site.old event result site.new }
+    ensures told { Told history.old event result history.new }
 {
     let happened = event.copy()?;
     let made = site.step(event)?;
@@ -61,8 +63,8 @@ fn stepped(
     failed: &mut bool,
     event: LocalEvent,
 ) -> Result<LocalEntries, Stop>
-    ensures does { MatchResult result (λ made. cell_step site.old event ≡ Ok ((made.verdict, made.entries), site.new)) (λ e. Stops e (cell_step site.old event)) }
-    ensures told { MatchResult result (λ made. history.new ≡ history.old ++ record { event = event; made = made } ∷ []) (λ _. history.new ≡ history.old) }
+    ensures does { Answers site.old event result site.new }
+    ensures told { Told history.old event result history.new }
     ensures flag { failed.new ≡ is_err result }
 {
     let done = recorded(site, history, event);
@@ -78,15 +80,15 @@ fn refused(event: LocalEvent) -> Result<LocalEntries, Stop>
     Err(Stop::OutOfMemory)
 }
 
-/// The same as `stepped`, unless a call has stopped before.
-fn stepped_unless(
+/// What a site makes of an event, appended to the history, unless a call has stopped before.
+fn answered(
     site: &mut Site,
     history: &mut History,
     failed: &mut bool,
     event: LocalEvent,
 ) -> Result<LocalEntries, Stop>
-    ensures does { MatchResult result (λ made. cell_step site.old event ≡ Ok ((made.verdict, made.entries), site.new)) (λ e. Stops e (cell_step site.old event)) }
-    ensures told { MatchResult result (λ made. history.new ≡ history.old ++ record { event = event; made = made } ∷ []) (λ _. history.new ≡ history.old) }
+    ensures does { Answers site.old event result site.new }
+    ensures told { Told history.old event result history.new }
     ensures flag { failed.new ≡ is_err result }
     ensures spent { failed.old ≡ true → IsErrOf result stops.OutOfMemory }
 {
@@ -122,7 +124,7 @@ impl Cell {
         ensures err { OnErr result (self.new.failed ≡ true) }
         ensures spent { self.old.failed ≡ true → IsErrOf result stops.OutOfMemory }
     {
-        stepped_unless(&mut self.site, &mut self.history, &mut self.failed, event)
+        answered(&mut self.site, &mut self.history, &mut self.failed, event)
     }
 
     /// The host and its nodes, for what is read of them. It takes no memory.
