@@ -1,4 +1,5 @@
 mod Follows
 mod Kept
 mod Opened
+mod Replayed
 mod Seated

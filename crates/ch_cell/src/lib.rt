@@ -4,9 +4,11 @@
 //! journal and running hosts stand above.
 #![tactic(auto)]
 
+mod cell;
 mod seat;
 mod site;
 mod told;
 
+pub use cell::Cell;
 pub use ch_model::{Happened, History, LocalEntries, LocalEntry, LocalEvent, LocalList, Verdict};
 pub use site::{Opening, Site};

@@ -5,3 +5,6 @@ pub mod Calls
 pub mod Next
 pub mod Cells
 pub mod Events
+pub mod Hosts
+pub mod Nodes
+pub mod Seats
