@@ -38,7 +38,7 @@ changed_among name which f sockets = changed_one which f (find (is_socket_named 
 pub with_end_of_is : (name : SockName) (which : End) (f : WorldEnd → WorldEnd) (world : World) → with_end_of name which f world ≡ record world { sockets = changed_among name which f world.sockets }
 with_end_of_is name which f world = by_found (find (is_socket_named name) world.sockets)
   where
-    by_found : (o : Option WorldSocket) → (elim o [ | None ↦ world | Some socket ↦ with_socket (with_end which (f (end_of which socket)) socket) world ]) ≡ record world { sockets = changed_one which f o world.sockets }
+    by_found : (o : Option WorldSocket) → (elim o [ None ↦ world | Some socket ↦ with_socket (with_end which (f (end_of which socket)) socket) world ]) ≡ record world { sockets = changed_one which f o world.sockets }
     by_found None = refl
     by_found (Some socket) = refl
 

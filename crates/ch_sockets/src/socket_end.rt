@@ -61,12 +61,7 @@ fn is_number(held: Option<u64>, number: u64) -> bool
 }
 
 impl SocketEnd {
-    fn of_nobody(
-        alloc: Global,
-        cell: Option<usize>,
-        number: Option<u64>,
-        stage: Stage,
-    ) -> SocketEnd
+    fn of_nobody(alloc: Global, cell: Option<usize>, number: Option<u64>, stage: Stage) -> SocketEnd
         ensures { result ≡ end_of_nobody cell number (stage_of stage) }
     {
         SocketEnd {

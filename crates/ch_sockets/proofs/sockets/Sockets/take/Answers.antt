@@ -12,7 +12,7 @@ pub returns-in-None-clause-taken : goal.returns-in-None-clause-taken
 returns-in-None-clause-taken c = c.new.ensures ∙ sym (ap (taken_of c.args.end c.args.count) (none_there (is_socket_named c.args.name.now) c.args.self.now (sym c.place.ensures.place ∙ c.in-None.is)))
 
 pub returns-in-None-clause-left : goal.returns-in-None-clause-left
-returns-in-None-clause-left c = unchanged c.args.end (passed c.args.count) c.args.name.now c.args.self.now _ c.self.view_is (sym c.place.ensures.place ∙ c.in-None.is)
+returns-in-None-clause-left c = unchanged c.args.end (passed c.args.count) c.args.name.now c.args.self.now _ refl (sym c.place.ensures.place ∙ c.in-None.is)
 
 pub returns-in-Some-clause-taken : goal.returns-in-Some-clause-taken
 returns-in-Some-clause-taken c = if_same c.take.result _ _ (sym (ap (taken_of c.args.end c.args.count) (found c.args.name.now c.args.self.now _ c.in-Some.place c.self.view_is (sym c.place.ensures.place ∙ c.in-Some.is) _ c.index_mut.ensures.value))) c.take.ensures.taken
