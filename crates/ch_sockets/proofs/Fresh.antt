@@ -24,7 +24,7 @@ named_none name (x ∷ xs) e = by_test (same_socket x.name name) (named_none nam
     by_test true ih e = absurd cc
     by_test false ih e = ih e
 
-counted : (from to : List ℕ) (sockets : List WorldSocket) → count_by (λ socket. same_ends from to socket.name) sockets ≡ count_by (same_ends from to) (names_of sockets)
+pub counted : (from to : List ℕ) (sockets : List WorldSocket) → count_by (λ socket. same_ends from to socket.name) sockets ≡ count_by (same_ends from to) (names_of sockets)
 counted from to [] = refl
 counted from to (x ∷ xs) =
     sum_by-cons (λ (socket : WorldSocket). cond (same_ends from to socket.name) 1 0) x xs
@@ -43,7 +43,7 @@ none_last p (y ∷ ys) x e other = by_test (p y) (none_last p ys x) e
     by_test false ih e = ih e other
 
 -- the next name is below the counts from then on
-numbered_next : (from to : List ℕ) (names : List SockName) → Numbered names → Numbered (names ++ record { from = from; to = to; number = count_by (same_ends from to) names } ∷ [])
+pub numbered_next : (from to : List ℕ) (names : List SockName) → Numbered names → Numbered (names ++ record { from = from; to = to; number = count_by (same_ends from to) names } ∷ [])
 numbered_next from to names numbered f t n le =
     let name : SockName = record { from = from; to = to; number = count_by (same_ends from to) names } in
     let asked : SockName = record { from = f; to = t; number = n } in
@@ -64,19 +64,15 @@ numbered_next from to names numbered f t n le =
         let here : count_by (same_ends f t) names ≡ n = (λ i. count_by (same_ends (one i) (two i)) names) ∙ at in
         absurd (omega (arith, le, more, here))
 
+-- no place has the next name
+pub next_fresh : (name : SockName) (names : List SockName) → Numbered names → name.number ≡ count_by (same_ends name.from name.to) names → find (λ known. same_socket known name) names ≡ None
+next_fresh name names numbered is = numbered name.from name.to name.number (omega (arith, is))
+
 -- a new socket comes last
-pub opened_last : (from to from_host : List ℕ) (opener : WorldEnd) (target : Option ℕ) (old rows after : List WorldSocket) (own : WorldSocket) → Numbered (names_of rows) → rows ≡ old → own ≡ new_socket_among old from to from_host opener target → after ≡ rows ++ own ∷ [] → (after ≡ store_in (new_socket_among old from to from_host opener target) old) × Numbered (names_of after)
+pub opened_last : (from to from_host : List ℕ) (opener : WorldEnd) (target : Option ℕ) (old rows after : List WorldSocket) (own : WorldSocket) → Numbered (names_of rows) → rows ≡ old → own ≡ new_socket_among old from to from_host opener target → after ≡ rows ++ own ∷ [] → after ≡ store_in (new_socket_among old from to from_host opener target) old
 opened_last from to from_host opener target old rows after own numbered same is push =
     let known : Numbered (names_of old) = subst (λ (xs : List WorldSocket). Numbered (names_of xs)) same numbered in
     let socket : WorldSocket = new_socket_among old from to from_host opener target in
     let name : SockName = next_name_among old from to in
-    let count = counted from to old in
-    let fresh : find (is_socket_named name) old ≡ None = named_none name old (known from to (count_by (λ s. same_ends from to s.name) old) (omega (arith, count))) in
-    let last : after ≡ old ++ socket ∷ [] = push ∙ (λ i. same i ++ is i ∷ []) in
-    let names : names_of after ≡ names_of old ++ record { from = from; to = to; number = count_by (same_ends from to) (names_of old) } ∷ [] =
-    ap names_of last
-    ∙ map-append (λ (s : WorldSocket). s.name) old (socket ∷ [])
-    ∙ (λ i. names_of old ++ record { from = from; to = to; number = count i } ∷ []) in (
-      last ∙ sym (replaced_last (is_socket_named name) socket old fresh) ∙ sym (stored socket old),
-      subst Numbered (sym names) (numbered_next from to (names_of old) known),
-    )
+    let fresh : find (is_socket_named name) old ≡ None = named_none name old (next_fresh name (names_of old) known (counted from to old)) in
+    push ∙ (λ i. same i ++ is i ∷ []) ∙ sym (replaced_last (is_socket_named name) socket old fresh) ∙ sym (stored socket old)

@@ -13,7 +13,8 @@ use Rattle.ch_model.specs.Same.{same_socket}
 use Rattle.ch_model.specs.WorldState.{WorldEnd, WorldSocket}
 use Rattle.ch_model.specs.WorldSockets.{end_of, with_end, is_socket_named, store_in, end_at, find_end}
 use Rattle.ch_sockets.specs.Among.{changed_one, changed_among, named_end}
-use Rattle.ch_sockets.specs.Numbers.{names_of, Numbered}
+use Rattle.ch_sockets.specs.Numbers.{names_of}
+use Rattle.ch_sockets.specs.Ends.{is_under}
 use Rattle.ch_sockets.proofs.Places.{replaced, replaced_there, found_there, none_there, found_passes}
 
 -- ---- names
@@ -80,9 +81,6 @@ names_set [] place before after is e = refl
 names_set (x ∷ xs) zero before after is e = ap (λ n. n ∷ names_of xs) (e ∙ ap (λ (s : WorldSocket). s.name) is)
 names_set (x ∷ xs) (suc n) before after is e = ap (λ ns. x.name ∷ ns) (names_set xs n before after is e)
 
-pub numbered_set : (rows : List WorldSocket) (place : ℕ) (before after : WorldSocket) → before ≡ get_or rows place before → after.name ≡ before.name → Numbered (names_of rows) → Numbered (names_of (slice_set rows place after))
-numbered_set rows place before after is e n = subst Numbered (sym (names_set rows place before after is e)) n
-
 -- ---- the end that a cell has under a number
 
 abbrev named_one : ℕ → ℕ → Option WorldSocket → Option (SockName × End)
@@ -90,25 +88,21 @@ named_one cell number None = None
 named_one cell number (Some socket) = named_end cell number socket
 
 -- it is that of the first socket that has one
-pub found_end : (cell number : ℕ) (sockets : List WorldSocket) → find_end cell number sockets ≡ named_one cell number (find (λ socket. is_some (end_at cell number socket)) sockets)
+pub found_end : (cell number : ℕ) (sockets : List WorldSocket) → find_end cell number sockets ≡ named_one cell number (find (is_under cell number) sockets)
 found_end cell number [] = refl
 found_end cell number (x ∷ xs) = by_end (end_at cell number x) refl (found_end cell number xs)
   where
-    by_end : (o : Option End) → end_at cell number x ≡ o → find_end cell number xs ≡ named_one cell number (find (λ socket. is_some (end_at cell number socket)) xs) → (elim o [ Some end ↦ Some (x.name, end) | None ↦ find_end cell number xs ]) ≡ named_one cell number (cond (is_some o) (Some x) (find (λ socket. is_some (end_at cell number socket)) xs))
+    by_end : (o : Option End) → end_at cell number x ≡ o → find_end cell number xs ≡ named_one cell number (find (is_under cell number) xs) → (elim o [ | Some end ↦ Some (x.name, end) | None ↦ find_end cell number xs ]) ≡ named_one cell number (cond (is_some o) (Some x) (find (is_under cell number) xs))
     by_end None e ih = ih
     by_end (Some end) e ih = sym (ap (option_map (λ (w : End). (x.name, w))) e)
 
-pub end_there : (cell number : ℕ) (old rows : List WorldSocket) (place : ℕ) (x : WorldSocket) → rows ≡ old → position (λ socket. is_some (end_at cell number socket)) rows ≡ Some place → x ≡ get_or rows place x → find_end cell number old ≡ named_end cell number x
+pub end_there : (cell number : ℕ) (old rows : List WorldSocket) (place : ℕ) (x : WorldSocket) → rows ≡ old → position (is_under cell number) old ≡ Some place → x ≡ get_or rows place x → find_end cell number old ≡ named_end cell number x
 end_there cell number old rows place x same e is =
-    ap (find_end cell number) (sym same)
-    ∙ found_end cell number rows
-    ∙ ap (named_one cell number) (found_there (λ socket. is_some (end_at cell number socket)) x rows place e ∙ ap Some (sym is))
+    found_end cell number old
+    ∙ ap (named_one cell number) (found_there (is_under cell number) x old place e ∙ ap Some (sym (is ∙ ap (λ r. get_or r place x) same)))
 
-pub no_end : (cell number : ℕ) (old rows : List WorldSocket) → rows ≡ old → position (λ socket. is_some (end_at cell number socket)) rows ≡ None → find_end cell number old ≡ None
-no_end cell number old rows same e =
-    ap (find_end cell number) (sym same)
-    ∙ found_end cell number rows
-    ∙ ap (named_one cell number) (none_there (λ socket. is_some (end_at cell number socket)) rows e)
+pub no_end : (cell number : ℕ) (old : List WorldSocket) → position (is_under cell number) old ≡ None → find_end cell number old ≡ None
+no_end cell number old e = found_end cell number old ∙ ap (named_one cell number) (none_there (is_under cell number) old e)
 
 -- ---- calls that may fail
 
@@ -121,7 +115,6 @@ pub if_same : {A E : Type 0} (r : Result A E) (x y : A) → x ≡ y → IfOk r (
 if_same (Ok a) x y e p = p ∙ e
 if_same (Err f) x y e p = p
 
--- a change that may fail keeps the name
-pub name_either : {A E : Type 0} (r : Result A E) (which : End) (f : WorldEnd → WorldEnd) (before after : WorldSocket) → OnOk r (after ≡ with_end which (f (end_of which before)) before) → OnErr r (after ≡ before) → after.name ≡ before.name
-name_either (Ok a) which f before after ok err = ap (λ (s : WorldSocket). s.name) ok ∙ name_kept which (f (end_of which before)) before
-name_either (Err e) which f before after ok err = ap (λ (s : WorldSocket). s.name) err
+pub always_err : {A E : Type 0} (r : Result A E) (P : Type 0) → P → OnErr r P
+always_err (Ok a) P p = tt
+always_err (Err e) P p = p

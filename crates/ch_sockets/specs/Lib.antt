@@ -3,3 +3,5 @@ pub mod Openers
 pub mod Among
 pub mod Handing
 pub mod Numbers
+pub mod Names
+pub mod Ends

@@ -4,6 +4,7 @@
 //! host to host, stands above.
 #![tactic(auto)]
 
+mod names;
 mod opener;
 mod socket;
 mod socket_end;

@@ -2,15 +2,15 @@
 //!
 //! Its ends stand below, and all sockets above.
 
-ghost use Rattle.std.specs.Prelude.{◌≡◌, ◌||◌, Some, IfOk, OnOk, OnErr, is_some, take};
-ghost use Rattle.ch_model.specs.WorldSockets.{end_of, with_end, opened, ended, cut as cut_of, arrives as arrives_of, item_arrives as item_arrives_of, has_input as has_input_of, is_socket_named, end_at as end_at_of, other, target_end};
+ghost use Rattle.std.specs.Prelude.{◌≡◌, ◌||◌, Some, IfOk, OnOk, OnErr, take};
+ghost use Rattle.ch_model.specs.WorldSockets.{end_of, with_end, opened, ended, cut as cut_of, arrives as arrives_of, item_arrives as item_arrives_of, has_input as has_input_of, end_at as end_at_of, other, target_end};
 ghost use Rattle.ch_model.specs.WorldSteps.{first_place};
 ghost use Rattle.ch_model.specs.Stages.{is_ended};
-ghost use Rattle.ch_model.specs.Naming.{same_ends};
 ghost use Rattle.ch_model.specs.declared.name.End.TheVariants.{T};
 ghost use Rattle.ch_sockets.specs.Among.{named_end as named_end_of, passed, item_passed};
 ghost use Rattle.ch_sockets.specs.Openers.{opener_end};
 ghost use Rattle.ch_sockets.specs.Handing.{handed_of};
+ghost use Rattle.ch_sockets.specs.Ends.{is_under as is_under_of, under};
 
 use crate::opener::Opener;
 use crate::socket_end::SocketEnd;
@@ -109,22 +109,6 @@ impl Socket {
         Ok(Handed::Nothing)
     }
 
-    /// Whether it has this name.
-    pub(crate) fn is_named(&self, name: &SockName) -> bool
-        ensures { result ≡ is_socket_named name.now self.now }
-    {
-        self.name.from.as_slice() == name.from.as_slice()
-            && self.name.to.as_slice() == name.to.as_slice()
-            && self.name.number == name.number
-    }
-
-    /// Whether it is of this opener and this target.
-    pub(crate) fn has_ends(&self, from: &Text, to: &Text) -> bool
-        ensures { result ≡ same_ends from.now to.now self.now.name }
-    {
-        self.name.from.as_slice() == from.as_slice() && self.name.to.as_slice() == to.as_slice()
-    }
-
     /// The end that a host has under a number.
     pub(crate) fn end_at(&self, cell: usize, number: u64) -> Option<End>
         ensures { result ≡ end_at_of cell number self.now }
@@ -140,7 +124,7 @@ impl Socket {
 
     /// Whether a host has one of its ends under a number.
     pub(crate) fn is_under(&self, cell: usize, number: u64) -> bool
-        ensures { result ≡ is_some (end_at_of cell number self.now) }
+        ensures { result ≡ is_under_of cell number self.now }
     {
         self.end_at(cell, number).is_some()
     }
@@ -156,6 +140,16 @@ impl Socket {
         match self.end_at(cell, number) {
             None => Ok(None),
             Some(end) => Ok(Some((self.name.copy()?, end))),
+        }
+    }
+
+    /// The place of the target's host and this number, where it is of a host.
+    pub(crate) fn target_key(&self, number: u64) -> Option<(usize, u64)>
+        ensures { result ≡ under number self.now.t.cell }
+    {
+        match self.t.cell() {
+            None => None,
+            Some(cell) => Some((cell, number)),
         }
     }
 

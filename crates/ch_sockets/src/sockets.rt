@@ -2,26 +2,34 @@
 //!
 //! One socket stands below, and the world above.
 
-ghost use Rattle.std.specs.Prelude.{◌≡◌, ◌<◌, [], length, find, position, count_by, take, option_map, is_some, Some, IfOk, OnOk, IfSome};
+ghost use Rattle.std.specs.Prelude.{◌≡◌, ◌<◌, ◌≤◌, ◌+◌, [], length, find, position, count_by, drop, option_map, IfOk, OnOk, OnErr, IfSome};
 ghost use Rattle.std.specs.Option.{option_copied};
 ghost use Rattle.ch_model.specs.Naming.{same_ends};
 ghost use Rattle.ch_model.specs.declared.name.End.TheVariants.{T};
-ghost use Rattle.ch_model.specs.WorldSockets.{is_socket_named, find_end, end_at, store_in, opened, ended, cut as cut_of, arrives as arrives_of, item_arrives as item_arrives_of};
+ghost use Rattle.ch_model.specs.WorldSockets.{is_socket_named, find_end, store_in, opened, ended, cut as cut_of, arrives as arrives_of, item_arrives as item_arrives_of};
 ghost use Rattle.ch_sockets.specs.Openers.{opener_end};
 ghost use Rattle.ch_sockets.specs.Among.{changed_among, next_name_among, new_socket_among, come_under, passed, item_passed, taken_among, item_among};
 ghost use Rattle.ch_sockets.specs.Handing.{handed_among};
+ghost use Rattle.ch_sockets.specs.Ends.{lower as lower_of, is_under, IsNoted};
 
+use crate::names::Names;
 use crate::opener::Opener;
 use crate::socket::Socket;
 use ch_base::{OutOfMemory, Text};
 use ch_model::{End, Handed, Place, SockName};
+use indexmap::IndexMap;
 use std::alloc::Global;
 use std::marker::Model;
 
-/// Sockets in order of opening. Contracts see the list of them.
+/// Sockets in order of opening. Contracts see the list of them. No call walks them: a socket is looked up by its
+/// name, how many there are of an opener and a target is looked up too, and the end that a host has under a number
+/// is looked for from a place that is known for it: its own, where a host gives a number once.
 #[derive(Drop)]
 pub struct Sockets {
     rows: Vec<Socket>,
+    names: Names,
+    /// For each host and number under which there is an end, a place such that no socket before it has the end.
+    ends: IndexMap<(usize, u64), usize>,
 }
 
 impl Model for Sockets {
@@ -30,24 +38,45 @@ impl Model for Sockets {
 
     ghost Value = { List WorldSocket };
 
-    ghost use Rattle.ch_sockets.specs.Numbers.{Numbered, names_of};
+    ghost use Rattle.ch_sockets.specs.Ends.{AreTables};
 
     ghost view = { λ sockets. sockets.rows.items };
 
-    ghost invariant = { λ sockets. Numbered (names_of sockets.rows.items) };
+    ghost invariant = { λ sockets. AreTables sockets.names sockets.ends.entries sockets.rows.items };
 }
 
-/// The place of the first of these that has a name.
-fn place_among(sockets: &[Socket], name: &SockName) -> Option<usize>
-    ensures place { result ≡ position (is_socket_named name.now) sockets.now }
-    ensures within { IfSome result (λ place. place < length sockets.now) }
+/// Of a place that may be known, and another, the lower one.
+fn lower(known: Option<usize>, place: usize) -> usize
+    ensures { result ≡ lower_of known place }
 {
-    sockets.iter().position(|socket| socket.is_named(name))
+    match known {
+        None => place,
+        Some(first) => if first < place { first } else { place },
+    }
+}
+
+/// The place of an end is known from now on, or a lower one.
+fn note(
+    ends: &mut IndexMap<(usize, u64), usize>,
+    key: Option<(usize, u64)>,
+    place: usize,
+) -> Result<(), OutOfMemory>
+    ensures ok { OnOk result (IsNoted key place ends.old.entries ends.new.entries) }
+    ensures err { OnErr result (ends.new.entries ≡ ends.old.entries) }
+{
+    match key {
+        None => Ok(()),
+        Some(key) => {
+            let first = lower(ends.get(&key).copied(), place);
+            ends.insert(key, first)?;
+            Ok(())
+        }
+    }
 }
 
 /// The place of the first of these of which a host has an end under a number.
-fn place_under(sockets: &[Socket], cell: usize, number: u64) -> Option<usize>
-    ensures place { result ≡ position (λ socket. is_some (end_at cell number socket)) sockets.now }
+fn place_among(sockets: &[Socket], cell: usize, number: u64) -> Option<usize>
+    ensures place { result ≡ position (is_under cell number) sockets.now }
     ensures within { IfSome result (λ place. place < length sockets.now) }
 {
     sockets
@@ -55,23 +84,14 @@ fn place_under(sockets: &[Socket], cell: usize, number: u64) -> Option<usize>
         .position(|socket| socket.is_under(cell, number))
 }
 
-/// How many of these are of an opener and a target.
-fn count_among(sockets: &[Socket], from: &Text, to: &Text) -> usize
-    ensures { result ≡ count_by (λ socket. same_ends from.now to.now socket.name) sockets.now }
+/// The place of the first socket, from this one on, of which a host has an end under a number.
+fn place_from(sockets: &[Socket], first: usize, cell: usize, number: u64) -> Option<usize>
+    requires { first ≤ length sockets.now }
+    ensures { result ≡ option_map (λ more. first + more) (position (is_under cell number) (drop first sockets.now)) }
 {
-    sockets
-        .iter()
-        .filter(|socket| socket.has_ends(from, to))
-        .count()
-}
-
-/// The number of a socket before which so many of its opener and target were opened. None is given past 2^32.
-fn number_after(count: usize) -> Result<u32, OutOfMemory>
-    ensures { IfOk result (λ number. number ≡ count) }
-{
-    match u32::try_from(count) {
-        Ok(number) => Ok(number),
-        Err(_) => Err(OutOfMemory),
+    match place_among(&sockets[first..], cell, number) {
+        None => None,
+        Some(more) => Some(first + more),
     }
 }
 
@@ -82,6 +102,8 @@ impl Sockets {
     {
         Sockets {
             rows: Vec::new(alloc),
+            names: Names::new(alloc),
+            ends: IndexMap::new(alloc),
         }
     }
 
@@ -89,7 +111,7 @@ impl Sockets {
         ensures place { result ≡ position (is_socket_named name.now) self.now }
         ensures within { IfSome result (λ place. place < length self.now) }
     {
-        place_among(self.rows.as_slice(), name)
+        self.names.place(name)
     }
 
     /// The socket of this name.
@@ -102,6 +124,17 @@ impl Sockets {
         }
     }
 
+    /// The place of the first socket of which a host has an end under a number.
+    fn place_under(&self, cell: usize, number: u64) -> Option<usize>
+        ensures place { result ≡ position (is_under cell number) self.now }
+        ensures within { IfSome result (λ place. place < length self.now) }
+    {
+        match self.ends.get(&(cell, number)) {
+            None => None,
+            Some(first) => place_from(self.rows.as_slice(), *first, cell, number),
+        }
+    }
+
     /// The socket and the end that a host, by its place among the journal's, has under a number.
     pub fn end_under(
         &self,
@@ -110,17 +143,10 @@ impl Sockets {
     ) -> Result<Option<(SockName, End)>, OutOfMemory>
         ensures { IfOk result (λ found. found ≡ find_end cell number self.now) }
     {
-        match place_under(self.rows.as_slice(), cell, number) {
+        match self.place_under(cell, number) {
             None => Ok(None),
             Some(place) => self.rows[place].named_end(cell, number),
         }
-    }
-
-    /// The number of the next socket of an opener and a target.
-    fn next_number(&self, from: &Text, to: &Text) -> Result<u32, OutOfMemory>
-        ensures { IfOk result (λ number. number ≡ count_by (λ socket. same_ends from.now to.now socket.name) self.now) }
-    {
-        number_after(count_among(self.rows.as_slice(), from, to))
     }
 
     /// A new socket of one to another, after the others. The target's host is told by its place among the
@@ -136,13 +162,20 @@ impl Sockets {
         ensures name { IfOk result (λ name. name ≡ next_name_among self.old from to) }
         ensures opened { OnOk result (self.new ≡ store_in (new_socket_among self.old from to from_host (opener_end opener) target) self.old) }
     {
-        let alloc = *self.rows.allocator();
-        let number = self.next_number(&from, &to)?;
+        let place = self.rows.len();
+        let number = self.names.count(&from, &to);
         let name = SockName { from, to, number };
         let answer = name.copy()?;
-        self.rows
-            .push(Socket::new(alloc, name, from_host, opener, target))?;
-        Ok(answer)
+        note(&mut self.ends, opener.key(), place)?;
+        let socket = Socket::new(*self.rows.allocator(), name, from_host, opener, target);
+        self.rows.push(socket)?;
+        match self.names.add(&answer) {
+            Ok(()) => Ok(answer),
+            Err(e) => {
+                self.rows.truncate(place);
+                Err(e)
+            }
+        }
     }
 
     /// An end is open. Nothing happens where no socket has the name.
@@ -162,6 +195,7 @@ impl Sockets {
         match self.place(name) {
             None => Ok(()),
             Some(place) => {
+                note(&mut self.ends, self.rows[place].target_key(number), place)?;
                 self.rows[place].come(number);
                 Ok(())
             }

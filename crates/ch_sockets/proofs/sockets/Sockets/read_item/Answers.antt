@@ -5,11 +5,12 @@ use Rattle.ch_model.specs.WorldSockets.{end_of, is_socket_named}
 use Rattle.ch_model.specs.WorldSteps.{first_place}
 use Rattle.ch_sockets.specs.Among.{item_passed}
 use Rattle.ch_sockets.proofs.Places.{none_there}
-use Rattle.ch_sockets.proofs.Named.{changed, unchanged, found, name_kept, numbered_set}
+use Rattle.ch_sockets.proofs.Named.{changed, unchanged, found}
+use Rattle.ch_sockets.proofs.Kept.{changed_tables}
 use Rattle.ch_sockets.proofs.sockets.Sockets.read_item.Goals as goal
 
 pub invariant_of-self : goal.invariant_of-self
-invariant_of-self c = numbered_set c.self.inside.rows.items c.in-Some.place _ c.read_item.new.self c.index_mut.ensures.value (ap (λ (s : WorldSocket). s.name) c.read_item.ensures.left ∙ name_kept c.args.end (item_passed (end_of c.args.end c.index_mut.result.now)) c.index_mut.result.now) c.self.invariant
+invariant_of-self c = changed_tables item_passed (λ e. (refl, refl)) c.args.end c.self.inside.names _ c.self.inside.rows.items c.in-Some.place _ c.read_item.new.self c.index_mut.ensures.value c.read_item.ensures.left c.self.invariant
 
 pub returns-in-None-clause-read : goal.returns-in-None-clause-read
 returns-in-None-clause-read c = sym (ap (option_map (λ (s : WorldSocket). first_place (end_of c.args.end s).places)) (none_there (is_socket_named c.args.name.now) c.args.self.now (sym c.place.ensures.place ∙ c.in-None.is)))
