@@ -1,8 +1,8 @@
 -- The tables of sockets once one is changed, or one comes.
-use Rattle.std.proofs.Common.{◌≡◌, ℕ, zero, suc, ◌+◌, ◌<◌, ◌≤◌, Bool, true, false, cond, not, ◌||◌, nat_lt, List, [], ◌∷◌, ◌++◌, length, take, get_or, Option, Some, None, IfSome, Result, Ok, Err, OnOk, OnErr, refl, ap, sym, subst, ◌∙◌, arith}
+use Rattle.std.proofs.Common.{◌≡◌, ℕ, suc, ◌+◌, ◌<◌, ◌≤◌, Bool, true, false, cond, not, ◌||◌, nat_lt, List, [], ◌∷◌, ◌++◌, length, take, get_or, Option, Some, None, IfSome, Result, Ok, Err, OnOk, OnErr, refl, ap, sym, subst, ◌∙◌, arith}
 use Rattle.std.specs.List.{position_or_len, position, count_by}
 use Rattle.std.specs.Prelude.{slice_set}
-use Rattle.std.proofs.lemmas.List.{map-append}
+use Rattle.std.proofs.lemmas.List.{map-append, get_or_default}
 use Rattle.std.proofs.Math.Seq.{take-append_seam}
 use Rattle.ch_model.specs.declared.name.End.{End}
 use Rattle.ch_model.specs.declared.name.End.TheVariants.{T}
@@ -113,6 +113,4 @@ next_nowhere name names numbered next = no_place_none (λ known. same_socket kno
 -- ---- two reads of one place
 
 pub read_twice : (rows : List WorldSocket) (place : ℕ) (a b : WorldSocket) → place < length rows → a ≡ get_or rows place a → b ≡ get_or rows place b → a ≡ b
-read_twice [] place a b lt e f = absurd (omega (arith, lt))
-read_twice (x ∷ xs) zero a b lt e f = e ∙ sym f
-read_twice (x ∷ xs) (suc n) a b lt e f = read_twice xs n a b (omega (arith, lt)) e f
+read_twice rows place a b lt e f = e ∙ get_or_default rows place a b lt ∙ sym f

@@ -316,8 +316,8 @@ both_put spelled texts mid now opener target from to name keys old own other put
       kept = two.1;
       count = pair_count spelled now name.from name.to from to keys f t two.1 ∙ ap (count_by (same_ends name.from name.to)) two.0;
       grown = λ after is.
-      let added = key_added spelled now from to name keys after f t two.1 none is in
-      (added.0, added.1 ∙ ap (λ (ns : List SockName). ns ++ name ∷ []) two.0, added.2);
+          let added = key_added spelled now from to name keys after f t two.1 none is in
+          (added.0, added.1 ∙ ap (λ (ns : List SockName). ns ++ name ∷ []) two.0, added.2);
     }
 
 -- a key that is taken back from the end

@@ -92,7 +92,7 @@ pub found_end : (cell number : ℕ) (sockets : List WorldSocket) → find_end ce
 found_end cell number [] = refl
 found_end cell number (x ∷ xs) = by_end (end_at cell number x) refl (found_end cell number xs)
   where
-    by_end : (o : Option End) → end_at cell number x ≡ o → find_end cell number xs ≡ named_one cell number (find (is_under cell number) xs) → (elim o [ | Some end ↦ Some (x.name, end) | None ↦ find_end cell number xs ]) ≡ named_one cell number (cond (is_some o) (Some x) (find (is_under cell number) xs))
+    by_end : (o : Option End) → end_at cell number x ≡ o → find_end cell number xs ≡ named_one cell number (find (is_under cell number) xs) → (elim o [ Some end ↦ Some (x.name, end) | None ↦ find_end cell number xs ]) ≡ named_one cell number (cond (is_some o) (Some x) (find (is_under cell number) xs))
     by_end None e ih = ih
     by_end (Some end) e ih = sym (ap (option_map (λ (w : End). (x.name, w))) e)
 

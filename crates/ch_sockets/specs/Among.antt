@@ -1,5 +1,6 @@
 -- What the model does to the sockets of a world, on the list of them.
 use Rattle.std.specs.Prelude.{◌≡◌, ℕ, List, [], take, drop, find, count_by, Option, Some, None, refl}
+use Rattle.std.proofs.Common.{ap}
 use Rattle.std.specs.Option.{option_map}
 use Rattle.ch_base.specs.declared.address.Address.{Address}
 use Rattle.ch_model.specs.declared.name.End.{End}
@@ -8,7 +9,7 @@ use Rattle.ch_model.specs.declared.step.Place.{Place}
 use Rattle.ch_model.specs.WorldState.{WorldEnd, WorldSocket, World}
 use Rattle.ch_model.specs.Naming.{same_ends}
 use Rattle.ch_model.specs.WorldSockets.{end_of, with_end, opened, is_socket_named, store_in, with_socket, with_end_of, end_at, target_end, cell_of, next_name, new_socket}
-use Rattle.ch_model.specs.WorldSteps.{first_place, later_places}
+use Rattle.ch_model.specs.WorldSteps.{first_place, later_places, item_is_read}
 
 -- ---- ends
 
@@ -55,6 +56,18 @@ taken_among name which count sockets = taken_of which count (find (is_socket_nam
 -- the place of the message of the next item towards an end, where a socket has the name
 abbrev pub item_among : SockName → End → List WorldSocket → Option (Option Place)
 item_among name which sockets = option_map (λ socket. first_place (end_of which socket).places) (find (is_socket_named name) sockets)
+
+abbrev pub read_among : SockName × End → Option (Option Place) → World → World
+read_among at None world = world
+read_among at (Some last) world = record world { sockets = changed_among at.0 at.1 item_passed world.sockets; last = last }
+
+-- with the change it is what the model does to a world where an item is read
+pub item_is_read_is : (at : SockName × End) (world : World) → item_is_read at (find (is_socket_named at.0) world.sockets) world ≡ read_among at (item_among at.0 at.1 world.sockets) world
+item_is_read_is at world = by_found (find (is_socket_named at.0) world.sockets)
+  where
+    by_found : (o : Option WorldSocket) → item_is_read at o world ≡ read_among at (option_map (λ socket. first_place (end_of at.1 socket).places) o) world
+    by_found None = refl
+    by_found (Some socket) = ap (λ (now : World). record now { last = first_place (end_of at.1 socket).places }) (with_end_of_is at.0 at.1 item_passed world)
 
 -- a socket's name, and the end that a cell has under a number
 abbrev pub named_end : ℕ → ℕ → WorldSocket → Option (SockName × End)

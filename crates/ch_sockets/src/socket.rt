@@ -97,7 +97,7 @@ impl Socket {
     }
 
     /// What is there to be handed to an end: all that is unread, else the end of its input, else nothing.
-    pub fn handed(&self, which: End) -> Result<Handed, OutOfMemory>
+    pub(crate) fn handed(&self, which: End) -> Result<Handed, OutOfMemory>
         ensures { IfOk result (λ handed. handed ≡ handed_of which self.now) }
     {
         if self.end(which).unread_len() > 0 {
