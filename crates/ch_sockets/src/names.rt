@@ -37,8 +37,8 @@ impl Model for Names {
     ghost invariant = { λ names. AreKeys (λ text. text.items) names.texts.keys names.keys.keys × AreCounts names.counts.entries names.keys.keys };
 }
 
-/// A count that may be known, else none.
-fn or_none(count: Option<u32>) -> u32
+/// A count, or zero where none is known.
+fn known_or_zero(count: Option<u32>) -> u32
     ensures { result ≡ or_zero count }
 {
     match count {
@@ -47,7 +47,7 @@ fn or_none(count: Option<u32>) -> u32
     }
 }
 
-/// The count once one more is counted. None is given past 2^32.
+/// One more than a count. It is want of memory at the last value of the type.
 fn one_more(count: u32) -> Result<u32, OutOfMemory>
     ensures { IfOk result (λ more. more ≡ count + 1) }
 {
@@ -92,7 +92,7 @@ impl Names {
             None => 0,
             Some(from) => match self.texts.get_index_of(to.as_slice()) {
                 None => 0,
-                Some(to) => or_none(self.counts.get(&(from, to)).copied()),
+                Some(to) => known_or_zero(self.counts.get(&(from, to)).copied()),
             },
         }
     }

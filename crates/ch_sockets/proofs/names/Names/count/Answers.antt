@@ -20,7 +20,7 @@ pub returns-in-Some-get_index_of : goal.returns-in-Some-get_index_of
 returns-in-Some-get_index_of c =
     let from = ap (λ (b : List ℕ). position (λ k. bytes_eq b k.items) c.self.inside.texts.keys) (sym c.as_slice.ensures) ∙ sym c.in-Some.ensures.index in
     let to = ap (λ (b : List ℕ). position (λ k. bytes_eq b k.items) c.self.inside.texts.keys) (sym c.as_slice-in-Some.ensures) ∙ sym c.in-Some-get_index_of.ensures.index in
-    c.or_none.ensures
+    c.known_or_zero.ensures
     ∙ ap or_zero (c.copied.ensures ∙ c.get.ensures.value)
     ∙ c.self.invariant.1 c.in-Some.from c.in-Some-get_index_of.to
     ∙ pair_count (λ text. text.items) c.self.inside.texts.keys c.args.from.now c.args.to.now c.in-Some.from c.in-Some-get_index_of.to c.self.inside.keys.keys from to c.self.invariant.0
