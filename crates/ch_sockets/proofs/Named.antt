@@ -1,5 +1,5 @@
 -- Sockets by name: what is changed at the place of a name is changed among all.
-use Rattle.std.proofs.Common.{◌≡◌, ℕ, zero, suc, Bool, true, false, cond, ◌&&◌, ◌==◌, List, [], ◌∷◌, get_or, find, map, is_some, Option, Some, None, Result, Ok, Err, OnOk, IfOk, OnErr, refl, ap, sym, subst, ◌∙◌, arith}
+use Rattle.std.proofs.Common.{◌≡◌, ℕ, zero, suc, Bool, true, false, cond, ◌&&◌, ◌==◌, List, [], ◌∷◌, get_or, find, is_some, Option, Some, None, Result, Ok, Err, OnOk, IfOk, OnErr, refl, ap, sym, ◌∙◌, arith}
 use Rattle.std.specs.List.{position}
 use Rattle.std.specs.Option.{option_map}
 use Rattle.std.specs.Prelude.{set, slice_set}

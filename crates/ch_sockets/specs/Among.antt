@@ -79,6 +79,10 @@ named_end cell number socket = option_map (λ end. (socket.name, end)) (end_at c
 abbrev pub next_name_among : List WorldSocket → List ℕ → List ℕ → SockName
 next_name_among sockets from to = record { from = from; to = to; number = count_by (λ socket. same_ends from to socket.name) sockets }
 
+-- it is the model's next name of a world
+pub next_name_is : (world : World) (from to : List ℕ) → next_name world from to ≡ next_name_among world.sockets from to
+next_name_is world from to = refl
+
 -- a new socket, from an opener's end to the cell at a place
 abbrev pub new_socket_among : List WorldSocket → List ℕ → List ℕ → List ℕ → WorldEnd → Option ℕ → WorldSocket
 new_socket_among sockets from to from_host opener target = record { name = next_name_among sockets from to; from_host = from_host; o = opener; t = target_end target }

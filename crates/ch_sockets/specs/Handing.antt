@@ -1,10 +1,9 @@
 -- What is there to be handed to an end of a socket.
-use Rattle.std.specs.Prelude.{ℕ, ◌||◌, List, length, find, nat_lt, Option, Some, None, if◌then◌else◌}
+use Rattle.std.specs.Prelude.{List, length, find, nat_lt, Option, Some, None, if◌then◌else◌}
 use Rattle.ch_model.specs.declared.handed.Handed.{Handed}
 use Rattle.ch_model.specs.declared.handed.Handed.TheVariants as handed
 use Rattle.ch_model.specs.declared.name.End.{End}
 use Rattle.ch_model.specs.declared.name.SockName.{SockName}
-use Rattle.ch_model.specs.Stages.{is_ended}
 use Rattle.ch_model.specs.WorldState.{WorldSocket}
 use Rattle.ch_model.specs.WorldSockets.{end_of, has_input, is_socket_named}
 

@@ -2,9 +2,8 @@
 //!
 //! One socket stands below, and the world above.
 
-ghost use Rattle.std.specs.Prelude.{◌≡◌, ◌<◌, ◌≤◌, ◌+◌, [], length, find, position, count_by, drop, option_map, IfOk, OnOk, OnErr, IfSome};
+ghost use Rattle.std.specs.Prelude.{◌≡◌, ◌<◌, ◌≤◌, ◌+◌, [], length, find, position, drop, option_map, IfOk, OnOk, OnErr, IfSome};
 ghost use Rattle.std.specs.Option.{option_copied};
-ghost use Rattle.ch_model.specs.Naming.{same_ends};
 ghost use Rattle.ch_model.specs.declared.name.End.TheVariants.{T};
 ghost use Rattle.ch_model.specs.WorldSockets.{is_socket_named, find_end, store_in, opened, ended, cut as cut_of, arrives as arrives_of, item_arrives as item_arrives_of};
 ghost use Rattle.ch_sockets.specs.Openers.{opener_end};

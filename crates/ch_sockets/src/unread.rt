@@ -1,6 +1,6 @@
 //! Bytes that were written towards an end and not read.
 
-ghost use Rattle.std.specs.Prelude.{◌≡◌, ◌<◌, ◌≤◌, [], ◌++◌, ◌==◌, length, take, drop, nat_lt, if◌then◌else◌, IfOk, OnOk, OnErr};
+ghost use Rattle.std.specs.Prelude.{◌≡◌, ◌<◌, ◌≤◌, [], ◌++◌, length, take, drop, nat_lt, if◌then◌else◌, IfOk, OnOk, OnErr};
 
 use ch_base::{OutOfMemory, Text};
 use std::alloc::Global;

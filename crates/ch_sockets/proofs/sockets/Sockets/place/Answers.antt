@@ -1,4 +1,4 @@
-use Rattle.std.proofs.Common.{ap, sym, subst, ◌∙◌}
+use Rattle.std.proofs.Common.{◌∙◌}
 use Rattle.ch_sockets.proofs.Kept.{name_place, if_within}
 use Rattle.ch_sockets.proofs.sockets.Sockets.place.Goals as goal
 

@@ -1,5 +1,4 @@
-use Rattle.std.proofs.Common.{ap, sym, get_or, Some, ◌∙◌}
-use Rattle.ch_model.specs.WorldState.{WorldSocket}
+use Rattle.std.proofs.Common.{ap, sym, ◌∙◌}
 use Rattle.ch_model.specs.WorldSockets.{is_socket_named}
 use Rattle.ch_sockets.specs.Handing.{handed_one}
 use Rattle.ch_sockets.proofs.Places.{none_there}
