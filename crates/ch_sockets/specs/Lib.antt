@@ -1,0 +1,7 @@
+pub mod Stages
+pub mod Openers
+pub mod Among
+pub mod Handing
+pub mod Numbers
+pub mod Names
+pub mod Ends
