@@ -1,5 +1,5 @@
 -- One more event of a history that is replayed.
-use Rattle.std.proofs.Common.{◌≡◌, Bool, true, false, List, [], ◌∷◌, ◌++◌, Ok, Err, refl, sym, ap, ◌∙◌, subst}
+use Rattle.std.proofs.Common.{◌≡◌, Bool, true, false, List, [], ◌∷◌, ◌++◌, Ok, Err, refl, sym, ap, subst}
 use Rattle.ch_model.specs.declared.local.Happened.{Happened}
 use Rattle.ch_model.specs.WorldState.{Cell}
 use Rattle.ch_model.specs.Cell.{cell_step}
