@@ -1,5 +1,5 @@
 -- One more event of a history that is replayed.
-use Rattle.std.proofs.Common.{◌≡◌, Bool, true, false, List, [], ◌∷◌, ◌++◌, Ok, Err, refl, sym, ap, ◌∙◌, subst}
+use Rattle.std.proofs.Common.{◌≡◌, Bool, true, false, List, [], ◌∷◌, ◌++◌, Ok, Err, refl, sym, ap, subst}
 use Rattle.ch_model.specs.declared.local.Happened.{Happened}
 use Rattle.ch_model.specs.WorldState.{Cell}
 use Rattle.ch_model.specs.Cell.{cell_step}
@@ -19,7 +19,7 @@ isnt {X = X} {E = E} {x = x} {e = e} true spent = let never : IsErrOf {T = X} {E
 isnt false spent = refl
 
 never : (over : Bool) → over ≡ true → over ≡ false → ⊥
-never over yes no = cc
+never over e h = cc
 
 -- what is replayed to one state, and then one more event, is replayed to the next
 one_more : (opening before after : Cell) (history : List Happened) (one : Happened) → Replays opening history before → Makes before one.event one.made after → Replays opening (history ++ one ∷ []) after
@@ -27,9 +27,12 @@ one_more opening before after [] one r s = (after, subst (λ (c : Cell). Makes c
 one_more opening before after (known ∷ rest) one r s = (r.0, r.1, one_more r.0 before after rest one r.2 s)
 
 -- where nothing has happened
-pub opened : (opening : Cell) → IsReplayed false opening opening []
+opened : (opening : Cell) → IsReplayed false opening opening []
 unfolding IsReplayed
 opened opening = (opening, refl, λ h. refl)
+
+pub new_opened : (opening state : Cell) (history : List Happened) → opening ≡ state → history ≡ [] → IsReplayed false opening state history
+new_opened opening state history e f = subst (λ (h : List Happened). IsReplayed false opening state h) (sym f) (subst (λ (o : Cell). IsReplayed false o state []) (sym e) (opened state))
 
 -- what is answered is made
 made_so : (before after : Cell) (event : LocalEvent) (made : LocalEntries) → Answers before event (Ok made) after → Makes before event made after
@@ -78,11 +81,17 @@ err_whole over (Err stop) flag = flag
 pub spent_whole : (seen old : Kept) (result : Result LocalEntries Stop) → seen ≡ old → (seen.failed ≡ true → IsErrOf result stops.OutOfMemory) → old.failed ≡ true → IsErrOf result stops.OutOfMemory
 spent_whole seen old result e spent = subst (λ (k : Kept). k.failed ≡ true → IsErrOf result stops.OutOfMemory) e spent
 
--- a refusal without memory, which changes nothing
-pub refused_answers : (before after : Cell) (event : LocalEvent) → Answers before event (Err stops.OutOfMemory) after
+stops_so : (before after : Cell) (event : LocalEvent) → Answers before event (Err stops.OutOfMemory) after
 unfolding Answers
-refused_answers before after event = tt
+stops_so before after event = tt
 
-pub refused_tells : (history : List Happened) (event : LocalEvent) → Told history event (Err stops.OutOfMemory) history
+tells_so : (history : List Happened) (event : LocalEvent) → Told history event (Err stops.OutOfMemory) history
 unfolding Told
-refused_tells history event = refl
+tells_so history event = refl
+
+-- a refusal for want of memory, which changes nothing
+pub refused_answers : (before after : Cell) (event : LocalEvent) (result : Result LocalEntries Stop) → result ≡ Err stops.OutOfMemory → Answers before event result after
+refused_answers before after event result e = subst (λ (r : Result LocalEntries Stop). Answers before event r after) (sym e) (stops_so before after event)
+
+pub refused_tells : (history : List Happened) (event : LocalEvent) (result : Result LocalEntries Stop) → result ≡ Err stops.OutOfMemory → Told history event result history
+refused_tells history event result e = subst (λ (r : Result LocalEntries Stop). Told history event r history) (sym e) (tells_so history event)
