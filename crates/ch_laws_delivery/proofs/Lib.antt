@@ -32,3 +32,4 @@ pub mod Overs
 pub mod Farewells
 pub mod Shuts
 pub mod Cells
+pub mod Worlds

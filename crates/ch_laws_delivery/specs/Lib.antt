@@ -25,3 +25,4 @@ pub mod Endings
 pub mod Shuts
 pub mod EndingRows
 pub mod Cells
+pub mod Worlds

@@ -29,7 +29,10 @@ ghost use Rattle.ch_laws_delivery.specs.UpReconnects.{ReconnectsUp, IsClosed};
 ghost use Rattle.ch_laws_delivery.specs.Bares.{SaysBroken, IsWasted, ReconnectsBare, IsRenewed};
 ghost use Rattle.ch_laws_delivery.specs.Quiets.{Keeps, kept_in};
 ghost use Rattle.ch_laws_delivery.specs.Endings.{Ends, Parting, Parts, IsParted, EndsWith, IsOver};
-ghost use Rattle.ch_model.specs.WorldState.{Cell};
+ghost use Rattle.ch_model.specs.WorldState.{Cell, World};
+ghost use Rattle.ch_model.specs.declared.name.ProcName.{ProcName};
+ghost use Rattle.ch_model.specs.declared.name.TargetName.{TargetName};
+ghost use Rattle.ch_laws_delivery.specs.Worlds.{Leg, IsSceneOf, NamesAreNew, IsLineOf, IsSentIn};
 ghost use Rattle.ch_laws_delivery.specs.Cells.{Sends, SendsFirst, IsSentAt, IsSentFirstAt};
 ghost use Rattle.ch_laws_delivery.specs.Shuts.{IsShut, IsShutThere, IsShutOff};
 ghost use Rattle.ch_laws_delivery.specs.EndingRows.{broken_once, the_parting, over_here};
@@ -230,6 +233,14 @@ pub fn shut_at_a_node()
 pub fn sent_at_a_cell()
     ensures later { (names : List Name) → AreApart names → (scene : Scene) (c : ℕ) (name : Name) (conn id : ℕ) (said : Message) → SaysOnOpen names scene c name conn id said → (cell : Cell) → Sends scene name cell → IsSentAt names scene c name said cell }
     ensures first { (names : List Name) → AreApart names → (scene : Scene) (c : ℕ) (name : Name) (conn : ℕ) (said : Message) → SaysFirst names scene c name conn said → (cell : Cell) → SendsFirst scene name cell → IsSentFirstAt names scene c name conn said cell }
+{}
+
+/// A line by which a process sends to another node on an open connection, while the link isn't up, in a world that has the
+/// scene of the two nodes: the line is answered `ok`, the world after it has the scene after it, with the way between as the
+/// same sockets' bytes, and what is seen then is the passage after the move.
+pub fn sent_by_a_line()
+    ensures { (names : List Name) → AreApart names → (world : World) (from to : ℕ) (legs : ℕ → Option Leg) (scene : Scene) (c : ℕ) (name : Name) (conn id : ℕ) (said : Message) (by : ProcName) (target : TargetName)
+        → (s : IsSceneOf world from to legs scene) → NamesAreNew world → IsLineOf world from scene.from name by target → SaysOnOpen names scene c name conn id said → Sends scene name s.sender.cell → IsSentIn names world from to legs scene c name said by target }
 {}
 
 /// What the laws ask can be had: small scenes, in which a first message is said, and a second, and the pair reconnects; the opening and the first
