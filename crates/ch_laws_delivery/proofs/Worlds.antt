@@ -1,6 +1,6 @@
 -- A line by which a process sends to another node, while the link isn't up, is the passage's move; and the way between is as
 -- it was.
-use Rattle.std.specs.Prelude.{◌≡◌, ◌≢◌, ℕ, Bool, true, false, cond, ◌||◌, List, [], ◌∷◌, ◌++◌, map, find, slice_get, slice_set, Option, Some, None, Result, Ok, if◌then◌else◌}
+use Rattle.std.specs.Prelude.{◌≡◌, ℕ, Bool, true, false, cond, List, [], ◌∷◌, ◌++◌, find, slice_get, slice_set, Option, Some, None, if◌then◌else◌}
 use Rattle.std.proofs.Common.{refl, ap, sym, ◌∙◌, subst}
 use Rattle.std.proofs.lemmas.Option.{slice_get_within}
 use Rattle.ch_ident.specs.declared.message.Message.{Message}
@@ -9,16 +9,14 @@ use Rattle.ch_link.specs.declared.LinkState.{LinkState}
 use Rattle.ch_link.specs.declared.LinkState.TheVariants.{Idle, Dialing, AwaitOther, Up}
 use Rattle.ch_static.specs.declared.command.Command.TheVariants.{Send}
 use Rattle.ch_static.specs.declared.target.Target.{Target}
-use Rattle.ch_model.specs.declared.entry.Verdict.TheVariants as verdicts
 use Rattle.ch_model.specs.declared.line.What.TheVariants as lines
-use Rattle.ch_model.specs.declared.local.LocalEvent.{LocalEvent}
 use Rattle.ch_model.specs.declared.local.LocalEvent.TheVariants.{Command}
 use Rattle.ch_model.specs.declared.name.End.{End}
 use Rattle.ch_model.specs.declared.name.ProcName.{ProcName}
 use Rattle.ch_model.specs.declared.name.SockName.{SockName}
 use Rattle.ch_model.specs.declared.name.TargetName.{TargetName}
 use Rattle.ch_model.specs.Stages.{Pending}
-use Rattle.ch_model.specs.HostState.{Link, HostState}
+use Rattle.ch_model.specs.HostState.{HostState}
 use Rattle.ch_model.specs.HostSteps.{own_address}
 use Rattle.ch_model.specs.HostWrites.{is_up}
 use Rattle.ch_model.specs.HostLinks.{next_dial}
@@ -27,20 +25,21 @@ use Rattle.ch_model.specs.NodePairs.{keeping}
 use Rattle.ch_model.specs.NodeSends.{with_said}
 use Rattle.ch_model.specs.Naming.{called, address_as, target_as}
 use Rattle.ch_model.specs.WorldState.{Cell, WorldSocket, World}
-use Rattle.ch_model.specs.WorldSockets.{end_of_nobody, other, is_socket_named, store_in, with_socket, end_at, find_end, cell_of, new_socket}
+use Rattle.ch_model.specs.WorldSockets.{end_of_nobody, other, is_socket_named, store_in, end_at, find_end, new_socket}
 use Rattle.ch_model.specs.WorldSteps.{all_told}
 use Rattle.ch_model.specs.WorldHappenings.{Answered, nothing, with_cell, cell_told, cell_hears}
-use Rattle.ch_model.specs.WorldLines.{node_hears, line_done}
+use Rattle.ch_model.specs.WorldLines.{line_done}
 use Rattle.ch_model.specs.CellSteps.{told_steps}
-use Rattle.ch_model.specs.Cell.{Celled, cell_step}
+use Rattle.ch_model.specs.Cell.{cell_step}
 use Rattle.ch_delivery.specs.Passage.{Item}
 use Rattle.ch_laws_delivery.specs.Scene.{Name, Use, Party, Scene, link_of}
 use Rattle.ch_laws_delivery.specs.Sending.{pair_at}
 use Rattle.ch_laws_delivery.specs.Sends.{SaysOnOpen, dial_steps, said_in}
+use Rattle.ch_laws_delivery.specs.FirstSends.{SaysFirst, first_after, first_in}
 use Rattle.ch_laws_delivery.specs.View.{AreApart}
-use Rattle.ch_laws_delivery.specs.Cells.{IsAt, Sends, cell_with, sent_entries, IsSentAt}
-use Rattle.ch_laws_delivery.specs.Worlds.{Stands, Leg, Carries, OnLeg, IsOn, IsReadAt, IsWay, IsSceneOf, NamesAreNew, IsLineOf, told_in, IsSentIn}
-use Rattle.ch_laws_delivery.proofs.Cells.{is_sent_at}
+use Rattle.ch_laws_delivery.specs.Cells.{IsAt, Sends, SendsFirst, cell_with, IsSentAt, IsSentFirstAt}
+use Rattle.ch_laws_delivery.specs.Worlds.{Stands, Leg, OnLeg, IsOn, IsReadAt, IsSceneOf, NamesAreNew, IsLineOf, told_in, IsSentIn, IsSentFirstIn}
+use Rattle.ch_laws_delivery.proofs.Cells.{is_sent_at, is_sent_first_at}
 
 -- ---- a socket more
 
@@ -113,8 +112,8 @@ module _ (world now : World) (from to : ℕ) (legs : ℕ → Option Leg) (scene 
     clash : false ≡ true → ⊥
     clash e = cc
 
-  scene_still : (later : Scene) → later.from ≡ record (scene.from) { node = node; host = host } → later.to ≡ scene.to → later.way ≡ scene.way → later.given ≡ scene.given → later.created ≡ scene.created → IsSceneOf now from to legs later
-  scene_still later f t w g c = record {
+  scene_still : (later : Scene) → later.from ≡ record (scene.from) { node = node; host = host } → later.to ≡ scene.to → later.way ≡ scene.way → later.created ≡ scene.created → IsSceneOf now from to legs later
+  scene_still later f t w c = record {
     sender = record { cell = cell; came = s.sender.came; there = ap (λ z. slice_get z from) cells ∙ set_here world.cells from (cell, s.sender.came) (slice_get_within world.cells from (s.sender.cell, s.sender.came) s.sender.there); at = subst (λ (p : Party). IsAt p cell) (sym f) at };
     receiver = record {
       cell = s.receiver.cell;
@@ -201,6 +200,34 @@ module _ (names : List Name) (apart : AreApart names) (world : World) (from to :
     cell = Then;
     came = s.sender.came;
     answered = line_is world from scene.from name by target said l s.sender ∙ ap (cell_told from (s.sender.cell, s.sender.came) world) sent.answered;
-    now = scene_still world (told_in world from Then s.sender.came scene.from P said).1 from to legs scene s Now sent.host Then more.cells more.sockets more.last sent.at sent.down (said_in scene c P sent.host) refl refl refl refl refl;
+    now = scene_still world (told_in world from Then s.sender.came scene.from P said).1 from to legs scene s Now sent.host Then more.cells more.sockets more.last sent.at sent.down (said_in scene c P sent.host) refl refl refl refl;
     seen = sent.seen;
+  }
+
+module _ (names : List Name) (apart : AreApart names) (world : World) (from to : ℕ) (legs : ℕ → Option Leg) (scene : Scene) (c : ℕ) (name : Name) (conn : ℕ) (said : Message) (by : ProcName) (target : TargetName)
+    (s : IsSceneOf world from to legs scene) (new : NamesAreNew world) (l : IsLineOf world from scene.from name by target) (h : SaysFirst names scene c name conn said) (sends : SendsFirst scene name s.sender.cell) where
+  abbrev First : Pair
+  First = pair_at scene.from.node name
+
+  begun : IsSentFirstAt names scene c name conn said s.sender.cell
+  begun = is_sent_first_at names apart scene c name conn said h s.sender.cell sends
+
+  abbrev Begun : NodeState
+  Begun = first_after scene.from.node First conn
+
+  abbrev Became : Cell
+  Became = cell_with s.sender.cell scene.from.end Begun begun.host
+
+  one_more : More (with_cell from (Became, s.sender.came) world) (told_in world from Became s.sender.came scene.from First said).1
+  one_more = told_more world from Became s.sender.came scene.from First said new
+
+  pub is_sent_first_in : IsSentFirstIn names world from to legs scene c name conn said by target
+  is_sent_first_in = record {
+    host = begun.host;
+    cell = Became;
+    came = s.sender.came;
+    answered = line_is world from scene.from name by target said l s.sender ∙ ap (cell_told from (s.sender.cell, s.sender.came) world) begun.answered;
+    now = scene_still world (told_in world from Became s.sender.came scene.from First said).1 from to legs scene s Begun begun.host Became one_more.cells one_more.sockets one_more.last begun.at begun.down
+        (first_in scene c First conn begun.host) refl refl refl refl;
+    seen = begun.seen;
   }

@@ -26,3 +26,4 @@ pub mod Shuts
 pub mod EndingRows
 pub mod Cells
 pub mod Worlds
+pub mod WorldRows

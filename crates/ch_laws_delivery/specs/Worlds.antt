@@ -20,9 +20,7 @@ use Rattle.ch_model.specs.Stages.{is_ended}
 use Rattle.ch_model.specs.HostState.{HostState}
 use Rattle.ch_model.specs.HostSteps.{is_socket}
 use Rattle.ch_model.specs.HostWrites.{said_of}
-use Rattle.ch_model.specs.NodeState.{NodeState, Pair}
-use Rattle.ch_model.specs.NodePairs.{keeping}
-use Rattle.ch_model.specs.NodeSends.{with_said}
+use Rattle.ch_model.specs.NodeState.{Pair}
 use Rattle.ch_model.specs.Naming.{address_as, target_as}
 use Rattle.ch_model.specs.WorldState.{Cell, WorldEnd, WorldSocket, World}
 use Rattle.ch_model.specs.WorldSockets.{end_of, other, is_socket_named, find_end, cell_of, next_name}
@@ -34,8 +32,8 @@ use Rattle.ch_delivery.specs.Moves.{Say, after}
 use Rattle.ch_laws_delivery.specs.Scene.{Name, Use, Party, Scene, link_of}
 use Rattle.ch_laws_delivery.specs.Sending.{pair_at, items_of}
 use Rattle.ch_laws_delivery.specs.Sends.{said_in}
-use Rattle.ch_laws_delivery.specs.FirstSends.{first_after, first_in}
-use Rattle.ch_laws_delivery.specs.Cells.{IsAt, cell_with, sent_entries}
+use Rattle.ch_laws_delivery.specs.FirstSends.{first_in}
+use Rattle.ch_laws_delivery.specs.Cells.{IsAt, sent_entries}
 use Rattle.ch_laws_delivery.specs.View.{view}
 
 -- ---- the nodes
@@ -150,3 +148,13 @@ pub record IsSentIn (names : List Name) (world : World) (from to : ℕ) (legs : 
       ≡ Ok ((verdicts.Ok, (told_in world from cell came scene.from (pair_at scene.from.node name) said).0), (told_in world from cell came scene.from (pair_at scene.from.node name) said).1)
   pub now : IsSceneOf (told_in world from cell came scene.from (pair_at scene.from.node name) said).1 from to legs (said_in scene c (pair_at scene.from.node name) host)
   pub seen : view names (said_in scene c (pair_at scene.from.node name) host) ≡ after (Say c) (view names scene)
+
+-- the same of the first message of an epoch
+pub record IsSentFirstIn (names : List Name) (world : World) (from to : ℕ) (legs : ℕ → Option Leg) (scene : Scene) (c : ℕ) (name : Name) (conn : ℕ) (said : Message) (by : ProcName) (target : TargetName) : Type 0 where
+  pub host : HostState
+  pub cell : Cell
+  pub came : ℕ
+  pub answered : line_done (lines.Send by target said.mark said.body) world
+      ≡ Ok ((verdicts.Ok, (told_in world from cell came scene.from (pair_at scene.from.node name) said).0), (told_in world from cell came scene.from (pair_at scene.from.node name) said).1)
+  pub now : IsSceneOf (told_in world from cell came scene.from (pair_at scene.from.node name) said).1 from to legs (first_in scene c (pair_at scene.from.node name) conn host)
+  pub seen : view names (first_in scene c (pair_at scene.from.node name) conn host) ≡ after (Say c) (view names scene)

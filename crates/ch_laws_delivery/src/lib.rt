@@ -2,8 +2,9 @@
 //! move.
 //!
 //! No code: definitions of the view, and laws as clauses of empty functions. The whole model stands below, and the
-//! machine with its laws. What a node and its host do at one event is shown to be a move, event by event: that a whole line
-//! of a world is a run of moves, and that all that is asked here of a scene holds in a world, is open.
+//! machine with its laws. What a node and its host do at one event is shown to be a move, event by event; and so is a line of
+//! a world by which a process sends while the link isn't up. Of every other line that is open, and that all that is asked
+//! here of a scene holds in a world.
 #![tactic(auto)]
 
 ghost use Rattle.std.specs.Prelude.{◌≡◌, ◌<◌, ℕ, Bool, true, false, is_some, List, [], ◌∷◌, Option, Ok};
@@ -32,9 +33,10 @@ ghost use Rattle.ch_laws_delivery.specs.Endings.{Ends, Parting, Parts, IsParted,
 ghost use Rattle.ch_model.specs.WorldState.{Cell, World};
 ghost use Rattle.ch_model.specs.declared.name.ProcName.{ProcName};
 ghost use Rattle.ch_model.specs.declared.name.TargetName.{TargetName};
-ghost use Rattle.ch_laws_delivery.specs.Worlds.{Leg, IsSceneOf, NamesAreNew, IsLineOf, IsSentIn};
+ghost use Rattle.ch_laws_delivery.specs.Worlds.{Leg, IsSceneOf, NamesAreNew, IsLineOf, IsSentIn, IsSentFirstIn};
 ghost use Rattle.ch_laws_delivery.specs.Cells.{Sends, SendsFirst, IsSentAt, IsSentFirstAt};
 ghost use Rattle.ch_laws_delivery.specs.Shuts.{IsShut, IsShutThere, IsShutOff};
+ghost use Rattle.ch_laws_delivery.specs.WorldRows.{cell_of_party, world_with, no_legs, the_process, the_target};
 ghost use Rattle.ch_laws_delivery.specs.EndingRows.{broken_once, the_parting, over_here};
 ghost use Rattle.ch_laws_delivery.specs.Rises.{ComesUp, IsRisen, IsCome};
 ghost use Rattle.ch_laws_delivery.specs.Losses.{LosesSocket, IsBroken};
@@ -235,12 +237,14 @@ pub fn sent_at_a_cell()
     ensures first { (names : List Name) → AreApart names → (scene : Scene) (c : ℕ) (name : Name) (conn : ℕ) (said : Message) → SaysFirst names scene c name conn said → (cell : Cell) → SendsFirst scene name cell → IsSentFirstAt names scene c name conn said cell }
 {}
 
-/// A line by which a process sends to another node on an open connection, while the link isn't up, in a world that has the
-/// scene of the two nodes: the line is answered `ok`, the world after it has the scene after it, with the way between as the
+/// A line by which a process sends to another node, on an open connection or as the first of an epoch, while the link isn't
+/// up, in a world that has the scene of the two nodes: the line is answered `ok`, the world after it has the scene after it, with the way between as the
 /// same sockets' bytes, and what is seen then is the passage after the move.
 pub fn sent_by_a_line()
-    ensures { (names : List Name) → AreApart names → (world : World) (from to : ℕ) (legs : ℕ → Option Leg) (scene : Scene) (c : ℕ) (name : Name) (conn id : ℕ) (said : Message) (by : ProcName) (target : TargetName)
+    ensures later { (names : List Name) → AreApart names → (world : World) (from to : ℕ) (legs : ℕ → Option Leg) (scene : Scene) (c : ℕ) (name : Name) (conn id : ℕ) (said : Message) (by : ProcName) (target : TargetName)
         → (s : IsSceneOf world from to legs scene) → NamesAreNew world → IsLineOf world from scene.from name by target → SaysOnOpen names scene c name conn id said → Sends scene name s.sender.cell → IsSentIn names world from to legs scene c name said by target }
+    ensures first { (names : List Name) → AreApart names → (world : World) (from to : ℕ) (legs : ℕ → Option Leg) (scene : Scene) (c : ℕ) (name : Name) (conn : ℕ) (said : Message) (by : ProcName) (target : TargetName)
+        → (s : IsSceneOf world from to legs scene) → NamesAreNew world → IsLineOf world from scene.from name by target → SaysFirst names scene c name conn said → SendsFirst scene name s.sender.cell → IsSentFirstIn names world from to legs scene c name conn said by target }
 {}
 
 /// What the laws ask can be had: small scenes, in which a first message is said, and a second, and the pair reconnects; the opening and the first
@@ -284,4 +288,15 @@ pub fn endings()
     ensures bare { ReconnectsBare the_names broken_once 0 the_name }
     ensures parting { Parts (said_once (Up 0 false)) the_parting }
     ensures ending { EndsWith the_names (said_once (Up 0 false)) 0 over_here (the_parting ∷ []) [] }
+{}
+
+/// The same of worlds: two nodes in cells of their own, where nothing was said yet, and where one message was; a line sends in
+/// each.
+pub fn sending_worlds()
+    ensures new { NamesAreNew (world_with at_start []) }
+    ensures scene { IsSceneOf (world_with at_start []) 0 1 no_legs at_start }
+    ensures line { IsLineOf (world_with at_start []) 0 at_start.from the_name the_process the_target }
+    ensures first { SendsFirst at_start the_name (cell_of_party at_start.from) }
+    ensures later_scene { IsSceneOf (world_with (said_once (Dialing 0)) []) 0 1 no_legs (said_once (Dialing 0)) }
+    ensures later { Sends (said_once (Dialing 0)) the_name (cell_of_party (said_once (Dialing 0)).from) }
 {}
