@@ -133,12 +133,12 @@ settles : (cell : Cell) (fuel : ℕ) → IsSettled cell.host → items_on fuel c
 settles cell zero h = refl
 settles cell (suc fuel) h = ap (one_more (items_on fuel) cell) (next_none cell.host h)
 
-abbrev at_of : Cell → (NodeState → Celled) → Option (ℕ × NodeState) → Celled
+abbrev pub at_of : Cell → (NodeState → Celled) → Option (ℕ × NodeState) → Celled
 at_of cell f None = refused verdicts.Nothing cell
 at_of cell f (Some known) = f known.1
 
 -- the node that is kept is found
-found_stored : (end : ℕ) (now : NodeState) (known : List (ℕ × NodeState)) (one : ℕ × NodeState) → find (is_at end) known ≡ Some one → find (is_at end) (store_node end now known) ≡ Some (end, now)
+pub found_stored : (end : ℕ) (now : NodeState) (known : List (ℕ × NodeState)) (one : ℕ × NodeState) → find (is_at end) known ≡ Some one → find (is_at end) (store_node end now known) ≡ Some (end, now)
 found_stored end now [] one h = absurd (clash h) where
   clash : ◌≡◌ {A = Option (ℕ × NodeState)} None (Some one) → ⊥
   clash e = cc
@@ -192,7 +192,7 @@ module _ (party : Party) (cell : Cell) (at : IsAt party cell) (name : Name) (sai
 
 -- ---- what follows
 
-ends_at : (entries : List LocalEntry) (cell : Cell) → IsSettled cell.host → answered verdicts.Ok (cells.◌then◌ (Ok (entries, cell)) all_items) ≡ Ok ((verdicts.Ok, entries), cell)
+pub ends_at : (entries : List LocalEntry) (cell : Cell) → IsSettled cell.host → answered verdicts.Ok (cells.◌then◌ (Ok (entries, cell)) all_items) ≡ Ok ((verdicts.Ok, entries), cell)
 ends_at entries cell h = ap (λ (r : Followed). answered verdicts.Ok (after_entries entries r)) (settles cell (kept_bytes cell.host) h) ∙ ap (λ (z : List LocalEntry). Ok ((verdicts.Ok, z), cell)) (append-nil entries)
 
 module _ (names : List Name) (apart : AreApart names) (scene : Scene) (c : ℕ) (name : Name) (conn id : ℕ) (said : Message) (h : SaysOnOpen names scene c name conn id said) (cell : Cell) (s : Sends scene name cell) where

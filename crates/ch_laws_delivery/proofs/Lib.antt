@@ -33,3 +33,4 @@ pub mod Farewells
 pub mod Shuts
 pub mod Cells
 pub mod Worlds
+pub mod QuietLines

@@ -85,21 +85,21 @@ stored_last socket (first ∷ rest) h = by_test (is_socket_named socket.name fir
 
 -- the way, where a world has some sockets more
 module _ (world now : World) (more : List WorldSocket) (sockets : now.sockets ≡ world.sockets ++ more) where
-  found_now : (name : SockName) (socket : WorldSocket) → find (is_socket_named name) world.sockets ≡ Some socket → find (is_socket_named name) now.sockets ≡ Some socket
+  pub found_now : (name : SockName) (socket : WorldSocket) → find (is_socket_named name) world.sockets ≡ Some socket → find (is_socket_named name) now.sockets ≡ Some socket
   found_now name socket h = ap (find (is_socket_named name)) sockets ∙ found_more (is_socket_named name) world.sockets more socket h
 
-  end_now : (cell number : ℕ) (x : SockName × End) → find_end cell number world.sockets ≡ Some x → find_end cell number now.sockets ≡ Some x
+  pub end_now : (cell number : ℕ) (x : SockName × End) → find_end cell number world.sockets ≡ Some x → find_end cell number now.sockets ≡ Some x
   end_now cell number x h = ap (find_end cell number) sockets ∙ end_more cell number world.sockets more x h
 
-  on_leg_still : (host : HostState) (o : Option Leg) (word : List Item) (cut : Bool) → OnLeg world host o word cut → OnLeg now host o word cut
+  pub on_leg_still : (host : HostState) (o : Option Leg) (word : List Item) (cut : Bool) → OnLeg world host o word cut → OnLeg now host o word cut
   on_leg_still host None word cut h = h
   on_leg_still host (Some leg) word cut h = record { socket = h.socket; found = found_now leg.socket h.socket h.found; comes = h.comes }
 
-  is_on_still : (place sock : ℕ) (o : Option Leg) (given : List (Option Use)) → IsOn world place sock o given → IsOn now place sock o given
+  pub is_on_still : (place sock : ℕ) (o : Option Leg) (given : List (Option Use)) → IsOn world place sock o given → IsOn now place sock o given
   is_on_still place sock None given h = h
   is_on_still place sock (Some leg) given h = (end_now place sock (leg.socket, other leg.toward) h.0, h.1)
 
-  is_read_still : (place sock : ℕ) (o : Option Leg) (created : List (Option Use)) → IsReadAt world place sock o created → IsReadAt now place sock o created
+  pub is_read_still : (place sock : ℕ) (o : Option Leg) (created : List (Option Use)) → IsReadAt world place sock o created → IsReadAt now place sock o created
   is_read_still place sock None created h = h
   is_read_still place sock (Some leg) created h = (end_now place sock (leg.socket, leg.toward) h.0, h.1)
 
@@ -140,7 +140,7 @@ pub record More (world now : World) : Type 0 where
   pub sockets : List WorldSocket
   pub last : now.sockets ≡ world.sockets ++ sockets
 
-append_none : {X : Type 0} (xs : List X) → xs ≡ xs ++ []
+pub append_none : {X : Type 0} (xs : List X) → xs ≡ xs ++ []
 append_none [] = refl
 append_none (x ∷ xs) = ap (λ z. x ∷ z) (append_none xs)
 
@@ -165,7 +165,7 @@ abbrev hears_of : World → (ℕ → Answered) → Option ℕ → Answered
 hears_of world f None = nothing world
 hears_of world f (Some place) = f place
 
-abbrev cell_of_world : World → (Cell × ℕ → Answered) → Option (Cell × ℕ) → Answered
+abbrev pub cell_of_world : World → (Cell × ℕ → Answered) → Option (Cell × ℕ) → Answered
 cell_of_world world f None = nothing world
 cell_of_world world f (Some cell) = f cell
 

@@ -27,3 +27,4 @@ pub mod EndingRows
 pub mod Cells
 pub mod Worlds
 pub mod WorldRows
+pub mod QuietLines

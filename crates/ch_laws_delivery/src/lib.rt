@@ -12,7 +12,10 @@ ghost use Rattle.ch_base.specs.declared.event.Room.{Room};
 ghost use Rattle.ch_static.specs.declared.command.Command.TheVariants.{Receive, Take, OpenPort};
 ghost use Rattle.ch_model.specs.declared.act.Act.{Act};
 ghost use Rattle.ch_model.specs.declared.note.Origin.{Origin};
-ghost use Rattle.ch_model.specs.Node.{node_command};
+ghost use Rattle.ch_model.specs.Node.{node_make, node_command};
+ghost use Rattle.ch_model.specs.declared.line.What.{What};
+ghost use Rattle.ch_model.specs.declared.local.LocalEvent.{LocalEvent};
+ghost use Rattle.ch_laws_delivery.specs.QuietLines.{AreNotes, IsToldBy, IsUnseenIn, IsStoodIn};
 ghost use Rattle.ch_model.specs.NodeLives.{make};
 ghost use Rattle.ch_model.specs.NodeEnds.{over};
 ghost use Rattle.ch_ident.specs.declared.reason.Reason.{Reason};
@@ -119,12 +122,13 @@ pub fn unseen_at_the_sender()
 
 /// What concerns a process's own mail alone is nothing to see at the sending node, and at the receiving node is an event as
 /// `stood_by_an_event` asks for: it takes a message from its mailbox or a port, or opens a port; and so is it that a process
-/// is made.
+/// is made, by a spawn or a line. The node tells it, and asks nothing of its host.
 pub fn own_mail()
-    ensures received { (node : NodeState) (by : ℕ) (mark : List ℕ) (room : Room) (did : List Act) (now : NodeState) → node_command node by (Receive mark) room ≡ Ok (did, now) → Keeps node now × Ages node now }
-    ensures taken { (node : NodeState) (by port : ℕ) (room : Room) (did : List Act) (now : NodeState) → node_command node by (Take port) room ≡ Ok (did, now) → Keeps node now × Ages node now }
-    ensures opened { (node : NodeState) (by : ℕ) (room : Room) (did : List Act) (now : NodeState) → node_command node by OpenPort room ≡ Ok (did, now) → Keeps node now × Ages node now }
-    ensures made { (node : NodeState) (origin : Option Origin) (args : List ℕ) (did : List Act) (now : NodeState) → make node origin args ≡ Ok (did, now) → Keeps node now × Ages node now }
+    ensures received { (node : NodeState) (by : ℕ) (mark : List ℕ) (room : Room) (did : List Act) (now : NodeState) → node_command node by (Receive mark) room ≡ Ok (did, now) → (Keeps node now × Ages node now) × AreNotes did }
+    ensures taken { (node : NodeState) (by port : ℕ) (room : Room) (did : List Act) (now : NodeState) → node_command node by (Take port) room ≡ Ok (did, now) → (Keeps node now × Ages node now) × AreNotes did }
+    ensures opened { (node : NodeState) (by : ℕ) (room : Room) (did : List Act) (now : NodeState) → node_command node by OpenPort room ≡ Ok (did, now) → (Keeps node now × Ages node now) × AreNotes did }
+    ensures made { (node : NodeState) (origin : Option Origin) (args : List ℕ) (did : List Act) (now : NodeState) → make node origin args ≡ Ok (did, now) → (Keeps node now × Ages node now) × AreNotes did }
+    ensures proc { (node : NodeState) (did : List Act) (now : NodeState) → node_make node ≡ Ok (did, now) → (Keeps node now × Ages node now) × AreNotes did }
 {}
 
 /// A process of a node is over: at the receiving node that is an event as `stood_by_an_event` asks for; at the sending node, of
@@ -245,6 +249,16 @@ pub fn sent_by_a_line()
         → (s : IsSceneOf world from to legs scene) → NamesAreNew world → IsLineOf world from scene.from name by target → SaysOnOpen names scene c name conn id said → Sends scene name s.sender.cell → IsSentIn names world from to legs scene c name said by target }
     ensures first { (names : List Name) → AreApart names → (world : World) (from to : ℕ) (legs : ℕ → Option Leg) (scene : Scene) (c : ℕ) (name : Name) (conn : ℕ) (said : Message) (by : ProcName) (target : TargetName)
         → (s : IsSceneOf world from to legs scene) → NamesAreNew world → IsLineOf world from scene.from name by target → SaysFirst names scene c name conn said → SendsFirst scene name s.sender.cell → IsSentFirstIn names world from to legs scene c name conn said by target }
+{}
+
+/// A line that a node answers by telling something, and asks nothing of its host, as those of `own_mail`, in a world that has
+/// the scene of two nodes: it is answered `ok`, and the world after it has the scene with the node after it. At the sending
+/// node what is seen then is as before; at the receiving node it is the passage after the move.
+pub fn told_by_a_line()
+    ensures sender { (names : List Name) (world : World) (from to : ℕ) (legs : ℕ → Option Leg) (scene : Scene) (what : What) (event : LocalEvent) (did : List Act) (after : NodeState)
+        → IsSceneOf world from to legs scene → IsToldBy world from scene.from what event did after → Keeps scene.from.node after → IsUnseenIn names world from to legs scene what did after }
+    ensures receiver { (names : List Name) (world : World) (from to : ℕ) (legs : ℕ → Option Leg) (scene : Scene) (what : What) (event : LocalEvent) (did : List Act) (after : NodeState)
+        → IsSceneOf world from to legs scene → IsToldBy world to scene.to what event did after → Faithful names scene → Ages scene.to.node after → IsStoodIn names world from to legs scene what did after }
 {}
 
 /// What the laws ask can be had: small scenes, in which a first message is said, and a second, and the pair reconnects; the opening and the first
