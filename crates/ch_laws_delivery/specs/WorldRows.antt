@@ -1,5 +1,11 @@
 -- Small worlds of two nodes in cells of their own.
-use Rattle.std.specs.Prelude.{ℕ, true, List, [], ◌∷◌, Option, None}
+use Rattle.std.specs.Prelude.{ℕ, true, List, [], ◌∷◌, ◌++◌, Option, None}
+use Rattle.ch_mail.specs.declared.life.Life.TheVariants.{Live}
+use Rattle.ch_model.specs.declared.act.Act.{Act}
+use Rattle.ch_model.specs.declared.act.Act.TheVariants as acts
+use Rattle.ch_model.specs.declared.note.Note.TheVariants as notes
+use Rattle.ch_model.specs.NodeState.{NodeState}
+use Rattle.ch_model.specs.NodeIds.{process_id}
 use Rattle.ch_model.specs.declared.name.ProcName.{ProcName}
 use Rattle.ch_model.specs.declared.name.TargetName.{TargetName}
 use Rattle.ch_model.specs.declared.name.TargetName.TheVariants as targets
@@ -32,3 +38,10 @@ the_process = record { node = 97 ∷ []; counter = 0 }
 
 abbrev pub the_target : TargetName
 the_target = targets.Process (record { node = 98 ∷ []; counter = 0 })
+
+-- a second process is made
+abbrev pub acts_of_proc : NodeState → List Act
+acts_of_proc node = acts.Note (notes.Made (process_id node 1) None) ∷ []
+
+abbrev pub after_proc : NodeState → NodeState
+after_proc node = record node { mail = node.mail ++ record { life = Live; mailbox = []; ports = [] } ∷ []; args = node.args ++ [] ∷ [] }

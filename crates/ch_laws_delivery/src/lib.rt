@@ -14,7 +14,9 @@ ghost use Rattle.ch_model.specs.declared.act.Act.{Act};
 ghost use Rattle.ch_model.specs.declared.note.Origin.{Origin};
 ghost use Rattle.ch_model.specs.Node.{node_make, node_command};
 ghost use Rattle.ch_model.specs.declared.line.What.{What};
+ghost use Rattle.ch_model.specs.declared.line.What.TheVariants.{Proc};
 ghost use Rattle.ch_model.specs.declared.local.LocalEvent.{LocalEvent};
+ghost use Rattle.ch_model.specs.declared.local.LocalEvent.TheVariants.{Make};
 ghost use Rattle.ch_laws_delivery.specs.QuietLines.{AreNotes, IsToldBy, IsUnseenIn, IsStoodIn};
 ghost use Rattle.ch_model.specs.NodeLives.{make};
 ghost use Rattle.ch_model.specs.NodeEnds.{over};
@@ -39,7 +41,7 @@ ghost use Rattle.ch_model.specs.declared.name.TargetName.{TargetName};
 ghost use Rattle.ch_laws_delivery.specs.Worlds.{Leg, IsSceneOf, NamesAreNew, IsLineOf, IsSentIn, IsSentFirstIn};
 ghost use Rattle.ch_laws_delivery.specs.Cells.{Sends, SendsFirst, IsSentAt, IsSentFirstAt};
 ghost use Rattle.ch_laws_delivery.specs.Shuts.{IsShut, IsShutThere, IsShutOff};
-ghost use Rattle.ch_laws_delivery.specs.WorldRows.{cell_of_party, world_with, no_legs, the_process, the_target};
+ghost use Rattle.ch_laws_delivery.specs.WorldRows.{cell_of_party, world_with, no_legs, the_process, the_target, acts_of_proc, after_proc};
 ghost use Rattle.ch_laws_delivery.specs.EndingRows.{broken_once, the_parting, over_here};
 ghost use Rattle.ch_laws_delivery.specs.Rises.{ComesUp, IsRisen, IsCome};
 ghost use Rattle.ch_laws_delivery.specs.Losses.{LosesSocket, IsBroken};
@@ -312,5 +314,6 @@ pub fn sending_worlds()
     ensures line { IsLineOf (world_with at_start []) 0 at_start.from the_name the_process the_target }
     ensures first { SendsFirst at_start the_name (cell_of_party at_start.from) }
     ensures later_scene { IsSceneOf (world_with (said_once (Dialing 0)) []) 0 1 no_legs (said_once (Dialing 0)) }
+    ensures proc { IsToldBy (world_with at_start []) 0 at_start.from (Proc (97 ∷ [])) (Make 7) (acts_of_proc at_start.from.node) (after_proc at_start.from.node) }
     ensures later { Sends (said_once (Dialing 0)) the_name (cell_of_party (said_once (Dialing 0)).from) }
 {}

@@ -1,7 +1,9 @@
 use Rattle.std.specs.Prelude.{◌≡◌, ℕ, Bool, true, false, nat_eq, List, []}
 use Rattle.std.proofs.Common.{refl}
 use Rattle.ch_link.specs.declared.LinkState.TheVariants.{Idle, Dialing, Up}
-use Rattle.ch_mail.specs.Mail.{life_of}
+use Rattle.ch_mail.specs.Mail.{life_of, make_of, newborn}
+use Rattle.ch_model.specs.Node.{node_make}
+use Rattle.ch_model.specs.NodeLives.{make}
 use Rattle.ch_watch.specs.Same.{same_node}
 use Rattle.ch_model.specs.HostCalls.{host_room}
 use Rattle.ch_model.specs.NodeConnections.{conn_to}
@@ -62,3 +64,7 @@ returns-clause-later_scene z = record {
 pub returns-clause-later : goal.returns-clause-later
 unfolding life_of pair_of is_pair same_target same_process same_node acting not_spent opened_besides conn_to host_room
 returns-clause-later z = record { at = record { host = refl; node = refl; settled = refl }; acts = refl; at_peer = refl }
+
+pub returns-clause-proc : goal.returns-clause-proc
+unfolding node_make make make_of newborn
+returns-clause-proc z = record { heard = refl; end = refl; does = refl; notes = tt }
