@@ -151,7 +151,7 @@ found_stored end now (first ∷ rest) one h = by_test (is_at end first) refl h (
   by_test false is q f = ap (λ b. cond b (Some first) (find (is_at end) (store_node end now rest))) is ∙ f q
 
 -- an act by which the host takes something
-puts_on : (end conn : ℕ) (payload : List ℕ) (weight : Weight) (rest : List Act) (cell : Cell) (done : List Step) (host : HostState) → host_send cell.host end conn payload weight ≡ Ok (done, host)
+pub puts_on : (end conn : ℕ) (payload : List ℕ) (weight : Weight) (rest : List Act) (cell : Cell) (done : List Step) (host : HostState) → host_send cell.host end conn payload weight ≡ Ok (done, host)
     → acts_on end (acts.Put conn payload weight ∷ rest) cell ≡ after_entries (told_steps done) (acts_on end rest (record cell { host = host }))
 puts_on end conn payload weight rest cell done host h = ap (λ (r : Result (List Step × HostState) EndError). cells.◌then◌ (asked cell r) (acts_on end rest)) h
 

@@ -34,3 +34,5 @@ pub mod Shuts
 pub mod Cells
 pub mod Worlds
 pub mod QuietLines
+pub mod UpCells
+pub mod UpWorlds

@@ -170,7 +170,7 @@ cell_of_world world f None = nothing world
 cell_of_world world f (Some cell) = f cell
 
 module _ (world : World) (place : ℕ) (party : Party) (name : Name) (by : ProcName) (target : TargetName) (said : Message) (l : IsLineOf world place party name by target) (stands : Stands world place party) where
-  line_is : line_done (lines.Send by target said.mark said.body) world ≡ cell_told place (stands.cell, stands.came) world (cell_step stands.cell (Command party.end name.by (Send name.to said)))
+  pub line_is : line_done (lines.Send by target said.mark said.body) world ≡ cell_told place (stands.cell, stands.came) world (cell_step stands.cell (Command party.end name.by (Send name.to said)))
   line_is = ap (hears_of world (λ p. cell_hears p (Command (address_as world.names by.node).id by.counter (Send (target_as world.names target) said)) world)) l.home
       ∙ ap (cell_of_world world (λ c. cell_told place c world (cell_step c.0 (Command (address_as world.names by.node).id by.counter (Send (target_as world.names target) said))))) stands.there
       ∙ ap (λ (end : ℕ). cell_told place (stands.cell, stands.came) world (cell_step stands.cell (Command end by.counter (Send (target_as world.names target) said)))) l.end

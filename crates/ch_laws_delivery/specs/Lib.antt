@@ -28,3 +28,4 @@ pub mod Cells
 pub mod Worlds
 pub mod WorldRows
 pub mod QuietLines
+pub mod UpLines

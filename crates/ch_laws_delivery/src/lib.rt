@@ -17,6 +17,7 @@ ghost use Rattle.ch_model.specs.declared.line.What.{What};
 ghost use Rattle.ch_model.specs.declared.line.What.TheVariants.{Proc};
 ghost use Rattle.ch_model.specs.declared.local.LocalEvent.{LocalEvent};
 ghost use Rattle.ch_model.specs.declared.local.LocalEvent.TheVariants.{Make};
+ghost use Rattle.ch_laws_delivery.specs.UpLines.{IsWrittenAt, AreSocketsApart, IsWrittenIn};
 ghost use Rattle.ch_laws_delivery.specs.QuietLines.{AreNotes, IsToldBy, IsUnseenIn, IsStoodIn};
 ghost use Rattle.ch_model.specs.NodeLives.{make};
 ghost use Rattle.ch_model.specs.NodeEnds.{over};
@@ -241,6 +242,7 @@ pub fn shut_at_a_node()
 pub fn sent_at_a_cell()
     ensures later { (names : List Name) → AreApart names → (scene : Scene) (c : ℕ) (name : Name) (conn id : ℕ) (said : Message) → SaysOnOpen names scene c name conn id said → (cell : Cell) → Sends scene name cell → IsSentAt names scene c name said cell }
     ensures first { (names : List Name) → AreApart names → (scene : Scene) (c : ℕ) (name : Name) (conn : ℕ) (said : Message) → SaysFirst names scene c name conn said → (cell : Cell) → SendsFirst scene name cell → IsSentFirstAt names scene c name conn said cell }
+    ensures up { (names : List Name) → AreApart names → (scene : Scene) (c : ℕ) (name : Name) (conn id sock : ℕ) (probed : Bool) (said : Message) → SaysUp names scene c name conn id sock probed said → (cell : Cell) → Sends scene name cell → IsWrittenAt names scene c name id sock said cell }
 {}
 
 /// A line by which a process sends to another node, on an open connection or as the first of an epoch, while the link isn't
@@ -251,6 +253,8 @@ pub fn sent_by_a_line()
         → (s : IsSceneOf world from to legs scene) → NamesAreNew world → IsLineOf world from scene.from name by target → SaysOnOpen names scene c name conn id said → Sends scene name s.sender.cell → IsSentIn names world from to legs scene c name said by target }
     ensures first { (names : List Name) → AreApart names → (world : World) (from to : ℕ) (legs : ℕ → Option Leg) (scene : Scene) (c : ℕ) (name : Name) (conn : ℕ) (said : Message) (by : ProcName) (target : TargetName)
         → (s : IsSceneOf world from to legs scene) → NamesAreNew world → IsLineOf world from scene.from name by target → SaysFirst names scene c name conn said → SendsFirst scene name s.sender.cell → IsSentFirstIn names world from to legs scene c name conn said by target }
+    ensures up { (names : List Name) → AreApart names → (world : World) (from to : ℕ) (legs : ℕ → Option Leg) (scene : Scene) (c : ℕ) (name : Name) (conn id sock : ℕ) (probed : Bool) (said : Message) (by : ProcName) (target : TargetName)
+        → (s : IsSceneOf world from to legs scene) → AreSocketsApart legs → IsLineOf world from scene.from name by target → SaysUp names scene c name conn id sock probed said → Sends scene name s.sender.cell → IsWrittenIn names world from to legs scene c name id sock said by target }
 {}
 
 /// A line that a node answers by telling something, and asks nothing of its host, as those of `own_mail`, in a world that has
