@@ -1,15 +1,12 @@
 -- A line that is told and does nothing more: the way stays, and the scene has the node after it.
-use Rattle.std.specs.Prelude.{◌≡◌, ℕ, List, [], ◌∷◌, ◌++◌, slice_get, slice_set, Option, Some, None, Result, Ok, if◌then◌else◌}
-use Rattle.std.proofs.Common.{refl, ap, sym, ◌∙◌, subst}
+use Rattle.std.specs.Prelude.{◌≡◌, ℕ, List, [], ◌∷◌, slice_get, Option, Ok}
+use Rattle.std.proofs.Common.{refl, ap, sym, ◌∙◌}
 use Rattle.std.proofs.lemmas.Option.{slice_get_within}
 use Rattle.ch_light.proofs.Lists.{set_here, set_other}
-use Rattle.ch_link.specs.declared.LinkState.TheVariants.{Up}
 use Rattle.ch_model.specs.declared.act.Act.{Act}
 use Rattle.ch_model.specs.declared.act.Act.TheVariants as acts
-use Rattle.ch_model.specs.declared.command.CommandError.{CommandError}
 use Rattle.ch_model.specs.declared.entry.Verdict.TheVariants as verdicts
 use Rattle.ch_model.specs.declared.line.What.{What}
-use Rattle.ch_model.specs.declared.local.LocalEntry.{LocalEntry}
 use Rattle.ch_model.specs.declared.local.LocalEntry.TheVariants as local
 use Rattle.ch_model.specs.declared.local.LocalEvent.{LocalEvent}
 use Rattle.ch_model.specs.declared.local.LocalEvent.TheVariants as events
@@ -17,19 +14,19 @@ use Rattle.ch_model.specs.HostState.{HostState}
 use Rattle.ch_model.specs.Host.{first_ready}
 use Rattle.ch_model.specs.NodeState.{NodeState}
 use Rattle.ch_model.specs.Node.{node_make, node_command, target_node}
-use Rattle.ch_model.specs.WorldState.{Cell, WorldSocket, World}
+use Rattle.ch_model.specs.WorldState.{Cell, World}
 use Rattle.ch_model.specs.WorldSteps.{all_told, noted}
-use Rattle.ch_model.specs.WorldHappenings.{with_cell, cell_told, cell_hears}
+use Rattle.ch_model.specs.WorldHappenings.{with_cell, cell_told}
 use Rattle.ch_model.specs.WorldLines.{line_done}
 use Rattle.ch_model.specs.CellSteps as cells
 use Rattle.ch_model.specs.CellSteps.{Followed, after_entries, acts_on, all_items, with_node}
-use Rattle.ch_model.specs.Cell.{Celled, answered, room_for, node_did, commanded, cell_step}
-use Rattle.ch_laws_delivery.specs.Scene.{Name, Party, Scene, link_of}
-use Rattle.ch_laws_delivery.specs.Quiets.{Keeps, kept_in}
-use Rattle.ch_laws_delivery.specs.Standings.{Faithful, Ages, stood_in}
+use Rattle.ch_model.specs.Cell.{answered, room_for, node_did, commanded, cell_step}
+use Rattle.ch_laws_delivery.specs.Scene.{Name, Party, Scene}
+use Rattle.ch_laws_delivery.specs.Quiets.{Keeps}
+use Rattle.ch_laws_delivery.specs.Standings.{Faithful, Ages}
 use Rattle.ch_laws_delivery.specs.Sends.{IsSettled}
-use Rattle.ch_laws_delivery.specs.Cells.{IsAt, cell_with}
-use Rattle.ch_laws_delivery.specs.Worlds.{Stands, Leg, OnLeg, IsOn, IsReadAt, IsSceneOf}
+use Rattle.ch_laws_delivery.specs.Cells.{IsAt}
+use Rattle.ch_laws_delivery.specs.Worlds.{Stands, Leg, IsSceneOf}
 use Rattle.ch_laws_delivery.specs.QuietLines.{AreNotes, told_notes, asked_of, IsHeardAt, IsToldBy, noted_in, IsUnseenIn, IsStoodIn}
 use Rattle.ch_laws_delivery.proofs.Quiets.{is_unseen}
 use Rattle.ch_laws_delivery.proofs.Stands.{is_stood}

@@ -1,5 +1,5 @@
 -- What a cell makes of a command by which a process sends on an open connection, while the link is up: its host writes the frame.
-use Rattle.std.specs.Prelude.{◌≡◌, ℕ, Bool, true, not, ◌&&◌, ◌||◌, List, [], ◌∷◌, nat_le, Option, Some, Result, Ok, Err, if◌then◌else◌}
+use Rattle.std.specs.Prelude.{◌≡◌, ℕ, Bool, true, not, ◌&&◌, ◌||◌, List, [], ◌∷◌, nat_le, Result, Ok, Err, if◌then◌else◌}
 use Rattle.std.proofs.Common.{refl, ap, sym, ◌∙◌}
 use Rattle.ch_base.specs.declared.memory.Stop.{Stop}
 use Rattle.ch_ident.specs.declared.message.Message.{Message}

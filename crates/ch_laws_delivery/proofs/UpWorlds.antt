@@ -1,6 +1,6 @@
 -- A line by which a process sends while the link is up is the passage's move: its frame's bytes come behind what is unread at the
 -- receiving node's end.
-use Rattle.std.specs.Prelude.{◌≡◌, ℕ, Bool, true, false, cond, ◌&&◌, ◌||◌, ◌==◌, nat_eq, List, [], ◌∷◌, ◌++◌, map, find, slice_get, Option, Some, None, Ok, if◌then◌else◌}
+use Rattle.std.specs.Prelude.{◌≡◌, ℕ, Bool, true, false, cond, ◌&&◌, ◌||◌, ◌==◌, nat_eq, List, [], ◌∷◌, ◌++◌, map, find, slice_get, Option, Some, None, if◌then◌else◌}
 use Rattle.std.specs.List.{flat_map}
 use Rattle.std.specs.Str.{bytes_eq}
 use Rattle.std.proofs.Common.{refl, ap, sym, ◌∙◌, subst, arith}
@@ -12,7 +12,6 @@ use Rattle.std.proofs.lemmas.Option.{slice_get_within}
 use Rattle.std.proofs.lemmas.Slice.Eq.{bytes_eq-Decides}
 use Rattle.ch_ident.specs.declared.message.Message.{Message}
 use Rattle.ch_light.proofs.Lists.{set_here, set_other}
-use Rattle.ch_link.specs.declared.LinkState.TheVariants.{Up}
 use Rattle.ch_wire.specs.Spelling.{frame_spelling}
 use Rattle.ch_wire.specs.declared.frame.Frame.{Frame}
 use Rattle.ch_model.specs.declared.entry.Entry.{Entry}
@@ -29,7 +28,7 @@ use Rattle.ch_model.specs.Same.{same_socket}
 use Rattle.ch_model.specs.Stages.{is_ended}
 use Rattle.ch_model.specs.HostState.{Link, HostState}
 use Rattle.ch_model.specs.HostWrites.{said_of}
-use Rattle.ch_model.specs.NodeState.{NodeState, Pair}
+use Rattle.ch_model.specs.NodeState.{Pair}
 use Rattle.ch_model.specs.NodePairs.{keeping}
 use Rattle.ch_model.specs.NodeSends.{with_said}
 use Rattle.ch_model.specs.WorldState.{Cell, WorldEnd, WorldSocket, World}
@@ -38,7 +37,7 @@ use Rattle.ch_model.specs.WorldSteps.{stepped}
 use Rattle.ch_model.specs.WorldHappenings.{with_cell, cell_told}
 use Rattle.ch_delivery.specs.Passage.{Item}
 use Rattle.ch_delivery.specs.Moves.{put, onto}
-use Rattle.ch_laws_delivery.specs.Scene.{Name, Use, Party, Scene, link_of}
+use Rattle.ch_laws_delivery.specs.Scene.{Name, Use, Scene}
 use Rattle.ch_laws_delivery.specs.Sending.{pair_at, items_in, items_of}
 use Rattle.ch_laws_delivery.specs.UpSends.{SaysUp, frame_of, written_in}
 use Rattle.ch_laws_delivery.specs.View as views

@@ -42,7 +42,7 @@ ghost use Rattle.ch_model.specs.declared.name.TargetName.{TargetName};
 ghost use Rattle.ch_laws_delivery.specs.Worlds.{Leg, IsSceneOf, NamesAreNew, IsLineOf, IsSentIn, IsSentFirstIn};
 ghost use Rattle.ch_laws_delivery.specs.Cells.{Sends, SendsFirst, IsSentAt, IsSentFirstAt};
 ghost use Rattle.ch_laws_delivery.specs.Shuts.{IsShut, IsShutThere, IsShutOff};
-ghost use Rattle.ch_laws_delivery.specs.WorldRows.{cell_of_party, world_with, no_legs, the_process, the_target, acts_of_proc, after_proc};
+ghost use Rattle.ch_laws_delivery.specs.WorldRows.{cell_of_party, world_with, no_legs, the_process, the_target, acts_of_proc, after_proc, up_sockets, up_legs, both_up};
 ghost use Rattle.ch_laws_delivery.specs.EndingRows.{broken_once, the_parting, over_here};
 ghost use Rattle.ch_laws_delivery.specs.Rises.{ComesUp, IsRisen, IsCome};
 ghost use Rattle.ch_laws_delivery.specs.Losses.{LosesSocket, IsBroken};
@@ -310,8 +310,8 @@ pub fn endings()
     ensures ending { EndsWith the_names (said_once (Up 0 false)) 0 over_here (the_parting ∷ []) [] }
 {}
 
-/// The same of worlds: two nodes in cells of their own, where nothing was said yet, and where one message was; a line sends in
-/// each.
+/// The same of worlds: two nodes in cells of their own, where nothing was said yet, where one message waits, and where both are
+/// up; a line sends in each, and a process is made.
 pub fn sending_worlds()
     ensures new { NamesAreNew (world_with at_start []) }
     ensures scene { IsSceneOf (world_with at_start []) 0 1 no_legs at_start }
@@ -319,5 +319,8 @@ pub fn sending_worlds()
     ensures first { SendsFirst at_start the_name (cell_of_party at_start.from) }
     ensures later_scene { IsSceneOf (world_with (said_once (Dialing 0)) []) 0 1 no_legs (said_once (Dialing 0)) }
     ensures proc { IsToldBy (world_with at_start []) 0 at_start.from (Proc (97 ∷ [])) (Make 7) (acts_of_proc at_start.from.node) (after_proc at_start.from.node) }
+    ensures up_scene { IsSceneOf (world_with both_up up_sockets) 0 1 up_legs both_up }
+    ensures apart { AreSocketsApart up_legs }
+    ensures up { Sends both_up the_name (cell_of_party both_up.from) }
     ensures later { Sends (said_once (Dialing 0)) the_name (cell_of_party (said_once (Dialing 0)).from) }
 {}
