@@ -2,13 +2,16 @@
 //! move.
 //!
 //! No code: definitions of the view, and laws as clauses of empty functions. The whole model stands below, and the
-//! machine with its laws. What a node and its host do at one event is shown to be a move, event by event; and so is a line of
-//! a world by which a process sends while the link isn't up. Of every other line that is open, and that all that is asked
-//! here of a scene holds in a world.
+//! machine with its laws. What a node and its host do at one event is shown to be a move, event by event; and so are lines of
+//! a world by which a process sends, takes a message, opens a port or is made. Of every other line that is open, and that
+//! all that is asked here of a scene holds in a world.
 #![tactic(auto)]
 
 ghost use Rattle.std.specs.Prelude.{◌≡◌, ◌<◌, ℕ, Bool, true, false, is_some, List, [], ◌∷◌, Option, Ok};
 ghost use Rattle.ch_base.specs.declared.event.Room.{Room};
+ghost use Rattle.ch_base.specs.declared.event.Why.{Why};
+ghost use Rattle.ch_base.specs.declared.event.Why.TheVariants.{Disconnect, NodeDown};
+ghost use Rattle.ch_model.specs.NodePairs.{lost_pairs};
 ghost use Rattle.ch_static.specs.declared.command.Command.TheVariants.{Receive, Take, OpenPort};
 ghost use Rattle.ch_model.specs.declared.act.Act.{Act};
 ghost use Rattle.ch_model.specs.declared.note.Origin.{Origin};
@@ -45,8 +48,8 @@ ghost use Rattle.ch_laws_delivery.specs.Shuts.{IsShut, IsShutThere, IsShutOff};
 ghost use Rattle.ch_laws_delivery.specs.WorldRows.{cell_of_party, world_with, no_legs, the_process, the_target, acts_of_proc, after_proc, up_sockets, up_legs, both_up};
 ghost use Rattle.ch_laws_delivery.specs.EndingRows.{broken_once, the_parting, over_here};
 ghost use Rattle.ch_laws_delivery.specs.Rises.{ComesUp, IsRisen, IsCome};
-ghost use Rattle.ch_laws_delivery.specs.Losses.{LosesSocket, IsBroken};
-ghost use Rattle.ch_laws_delivery.specs.Falls.{FallsOff, IsFallen};
+ghost use Rattle.ch_laws_delivery.specs.Losses.{Fails, LosesSocket, IsBroken};
+ghost use Rattle.ch_laws_delivery.specs.Falls.{IsFallen};
 ghost use Rattle.ch_laws_delivery.specs.Reconnects.{ReconnectsOpen, IsReconnected};
 ghost use Rattle.ch_light.specs.declared.Connection.{Connection};
 ghost use Rattle.ch_light.specs.Ids.{closed};
@@ -58,7 +61,7 @@ ghost use Rattle.ch_laws_delivery.specs.Standings.{Faithful, Ages, IsStood};
 ghost use Rattle.ch_laws_delivery.specs.Closings.{Closing, ClosesFirst, IsDeparted};
 ghost use Rattle.ch_delivery.specs.Passage.{Item, Created, Closed};
 ghost use Rattle.ch_link.specs.declared.LinkIn.{LinkIn};
-ghost use Rattle.ch_link.specs.declared.LinkIn.TheVariants.{Asked, Answered};
+ghost use Rattle.ch_link.specs.declared.LinkIn.TheVariants.{Asked, Answered, Gone, EndClosed};
 ghost use Rattle.ch_link.specs.declared.LinkAnswer.TheVariants.{Accepted};
 ghost use Rattle.ch_link.specs.declared.LinkState.TheVariants.{Dialing, Up};
 ghost use Rattle.ch_model.specs.NodeState.{Unread, Broken, ToNames};
@@ -168,11 +171,12 @@ pub fn come_on_a_socket()
     ensures { (names : List Name) (scene : Scene) (input : LinkIn) (sock i : ℕ) → ComesUp scene.to input sock → scene.way.at < i → IsCome names scene input sock i }
 {}
 
-/// A link that is up and loses its socket breaks, where the node watches nothing at the peer: the host ends its end, tells
-/// that the link broke, forgets what waited and all connections, and tells its node; the node breaks its open pairs, and
-/// those with a name go on in their next epoch; and what is seen then is the passage after the move.
+/// A link that is up and fails, as its socket is lost, the peer closed its endpoint or didn't answer a probe, breaks: the host
+/// ends its end, tells that the link broke, forgets what waited and all connections, and tells its node; the node breaks its
+/// open pairs, and those with a name go on in their next epoch, whatever it tells its processes; and what is seen then is the
+/// passage after the move.
 pub fn broken_by_a_loss()
-    ensures { (names : List Name) (scene : Scene) (sock : ℕ) (probed : Bool) (pairs : List Pair) → LosesSocket names scene sock probed pairs → IsBroken names scene sock pairs }
+    ensures { (names : List Name) (scene : Scene) (input : LinkIn) (sock : ℕ) (probed : Bool) (why : Why) (pairs : List Pair) → Fails scene.from input sock probed why → LosesSocket names scene pairs → IsBroken names scene input sock why pairs }
 {}
 
 /// A message that is read first on the socket that the receiving node is up on, for a process or port whose process lives, or
@@ -213,11 +217,12 @@ pub fn closed_by_the_peer()
     ensures { (names : List Name) (scene : Scene) (rest : List Item) (k : Closing) → ClosesFirst scene rest k → IsDeparted names scene rest k }
 {}
 
-/// The receiving node's link that is up and loses its socket falls, where that node watches nothing at the peer: the host
-/// ends its end, tells that the link broke, forgets all connections, and tells its node, which forgets what arrived; and
-/// what is seen then, where nothing comes from that socket any more, is the passage after the move.
+/// The receiving node's link that is up and fails falls: the host ends its end, tells that the link broke, forgets all
+/// connections, and tells its node, which forgets what arrived. Where the node watches nothing at the peer, what is seen then,
+/// where nothing comes from that socket any more, is the passage after the move; and whatever its processes are told, it is the
+/// passage after that and after who stands for a target then.
 pub fn fallen_by_a_loss()
-    ensures { (names : List Name) (scene : Scene) (sock : ℕ) (probed : Bool) (pairs : List Pair) → FallsOff scene sock probed pairs → IsFallen names scene sock pairs }
+    ensures { (names : List Name) (scene : Scene) (input : LinkIn) (sock : ℕ) (probed : Bool) (why : Why) (pairs : List Pair) → Fails scene.to input sock probed why → lost_pairs scene.to.peer scene.to.node.pairs ≡ Ok pairs → IsFallen names scene input sock why pairs }
 {}
 
 /// Whatever becomes of the processes, ports and names of the receiving node, where its connections lead where their pairs do,
@@ -282,8 +287,9 @@ pub fn scenes()
     ensures opening { OpensFirst the_names (up_with Unread (Created 0 0 ∷ message_item ∷ [])) the_name (message_item ∷ []) the_opening }
     ensures reading { ReadsFirst the_names (up_with bound_there (message_item ∷ [])) the_name [] the_reading }
     ensures closing { ClosesFirst (up_with bound_there (Closed 0 0 ∷ [])) [] the_closing }
-    ensures fall { FallsOff (up_with bound_there (message_item ∷ [])) 1 false [] }
-    ensures loss { LosesSocket the_names (said_once (Up 0 false)) 0 false (record open_pair { mark = Broken } ∷ []) }
+    ensures fall { Fails (up_with bound_there (message_item ∷ [])).to Gone 1 false Disconnect }
+    ensures shut { Fails (said_once (Up 0 false)).from EndClosed 0 false NodeDown }
+    ensures loss { LosesSocket the_names (said_once (Up 0 false)) (record open_pair { mark = Broken } ∷ []) }
 {}
 
 /// The same of what is read: that a connection is created; an opening and a message for a port and for a name; a message for
