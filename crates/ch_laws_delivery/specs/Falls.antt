@@ -5,7 +5,6 @@ use Rattle.ch_base.specs.declared.event.Why.{Why}
 use Rattle.ch_link.specs.declared.LinkIn.{LinkIn}
 use Rattle.ch_model.specs.declared.act.Act.{Act}
 use Rattle.ch_model.specs.NodeState.{NodeState, Pair}
-use Rattle.ch_model.specs.NodePairs.{lost_pairs}
 use Rattle.ch_model.specs.Node.{node_event}
 use Rattle.ch_delivery.specs.Passage.{Fell, Stood}
 use Rattle.ch_delivery.specs.Moves.{Fall, Stand, put, after, run}
