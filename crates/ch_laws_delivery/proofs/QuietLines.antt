@@ -27,8 +27,7 @@ use Rattle.ch_laws_delivery.specs.Standings.{Faithful, Ages}
 use Rattle.ch_laws_delivery.specs.Sends.{IsSettled}
 use Rattle.ch_laws_delivery.specs.Cells.{IsAt}
 use Rattle.ch_laws_delivery.specs.Worlds.{Stands, Leg, IsSceneOf}
-use Rattle.ch_laws_delivery.specs.QuietLines.{AreNotes, told_notes, asked_of, IsHeardAt, IsToldBy, noted_in, IsUnseenIn, IsStoodIn}
-use Rattle.ch_laws_delivery.proofs.Quiets.{is_unseen}
+use Rattle.ch_laws_delivery.specs.QuietLines.{AreNotes, told_notes, asked_of, IsHeardAt, IsToldBy, noted_in, IsToldIn, IsStoodIn}
 use Rattle.ch_laws_delivery.proofs.Stands.{is_stood}
 use Rattle.ch_laws_delivery.proofs.Cells.{at_of, found_stored, ends_at}
 use Rattle.ch_laws_delivery.proofs.Worlds.{More, cell_of_world, append_none, on_leg_still, is_on_still, is_read_still}
@@ -78,9 +77,9 @@ module _ (world : World) (place : ℕ) (party : Party) (what : What) (event : Lo
   line_told = l.heard ∙ ap (cell_of_world world (λ c. cell_told place c world (cell_step c.0 event))) stands.there
       ∙ ap (cell_told place (stands.cell, stands.came) world) (steps_quietly party stands.cell stands.at did after l.notes event l.end l.does)
 
-module _ (names : List Name) (world : World) (from to : ℕ) (legs : ℕ → Option Leg) (scene : Scene) (what : What) (event : LocalEvent) (did : List Act) (after : NodeState) (s : IsSceneOf world from to legs scene) where
-  pub is_unseen_in : IsToldBy world from scene.from what event did after → Keeps scene.from.node after → IsUnseenIn names world from to legs scene what did after
-  is_unseen_in l keeps =
+module _ (world : World) (from to : ℕ) (legs : ℕ → Option Leg) (scene : Scene) (what : What) (event : LocalEvent) (did : List Act) (after : NodeState) (s : IsSceneOf world from to legs scene) where
+  pub is_told_in : IsToldBy world from scene.from what event did after → IsToldIn world from to legs scene what did after
+  is_told_in l =
       let cell = with_node scene.from.end after s.sender.cell in
       let start = with_cell from (cell, s.sender.came) world in
       let now = (noted_in world from cell s.sender.came did).1 in
@@ -89,7 +88,7 @@ module _ (names : List Name) (world : World) (from to : ℕ) (legs : ℕ → Opt
         cell = cell;
         came = s.sender.came;
         answered = line_told world from scene.from what event did after l s.sender;
-        now = record {
+        now = λ log. record {
           sender = record { cell = cell; came = s.sender.came; there = ap (λ z. slice_get z from) more.cells ∙ set_here world.cells from (cell, s.sender.came) (slice_get_within world.cells from (s.sender.cell, s.sender.came) s.sender.there); at = at_after scene.from s.sender.cell s.sender.at did after l.notes };
           receiver = record { cell = s.receiver.cell; came = s.receiver.came; there = ap (λ z. slice_get z to) more.cells ∙ set_other world.cells from (cell, s.sender.came) to (λ e. s.apart (sym e)) ∙ s.receiver.there; at = s.receiver.at };
           apart = s.apart;
@@ -99,9 +98,9 @@ module _ (names : List Name) (world : World) (from to : ℕ) (legs : ℕ → Opt
             at = λ sock probed up. is_read_still world now more.sockets more.last to sock (legs scene.way.at) scene.created (s.way.at sock probed up);
           };
         };
-        seen = is_unseen scene after keeps names;
       }
 
+module _ (names : List Name) (world : World) (from to : ℕ) (legs : ℕ → Option Leg) (scene : Scene) (what : What) (event : LocalEvent) (did : List Act) (after : NodeState) (s : IsSceneOf world from to legs scene) where
   pub is_stood_in : IsToldBy world to scene.to what event did after → Faithful names scene → Ages scene.to.node after → IsStoodIn names world from to legs scene what did after
   is_stood_in l faithful ages =
       let cell = with_node scene.to.end after s.receiver.cell in

@@ -18,11 +18,11 @@ use Rattle.ch_model.specs.Cell.{room_for}
 use Rattle.ch_model.specs.WorldSteps.{all_told}
 use Rattle.ch_model.specs.WorldHappenings.{with_cell, cell_hears}
 use Rattle.ch_model.specs.WorldLines.{line_done}
+use Rattle.ch_delivery.specs.Passage as passages
 use Rattle.ch_laws_delivery.specs.Scene.{Name, Party, Scene}
 use Rattle.ch_laws_delivery.specs.Quiets.{kept_in}
 use Rattle.ch_laws_delivery.specs.Standings.{stood_in, IsStood}
 use Rattle.ch_laws_delivery.specs.Worlds.{Leg, IsSceneOf}
-use Rattle.ch_laws_delivery.specs.View.{view}
 
 -- the node tells something, and asks nothing of its host
 abbrev pub AreNotes : List Act → Type 0
@@ -60,14 +60,14 @@ pub record IsToldBy (world : World) (place : ℕ) (party : Party) (what : What) 
 abbrev pub noted_in : World → ℕ → Cell → ℕ → List Act → List Entry × World
 noted_in world place cell came did = all_told place cell (told_notes did) (with_cell place (cell, came) world)
 
--- The line is answered `ok`, at the sending node; the world after it has the scene with the node after it; and what is seen is
--- as before.
-pub record IsUnseenIn (names : List Name) (world : World) (from to : ℕ) (legs : ℕ → Option Leg) (scene : Scene) (what : What) (did : List Act) (after : NodeState) : Type 0 where
+-- The line is answered `ok`, at the sending node; and the world after it has the scene with the node after it, whatever log that
+-- has. So it is a move where the node's part is one that writes nothing: a reconnect with no open connection, or what a broken
+-- pair says.
+pub record IsToldIn (world : World) (from to : ℕ) (legs : ℕ → Option Leg) (scene : Scene) (what : What) (did : List Act) (after : NodeState) : Type 0 where
   pub cell : Cell
   pub came : ℕ
   pub answered : line_done what world ≡ Ok ((verdicts.Ok, (noted_in world from cell came did).0), (noted_in world from cell came did).1)
-  pub now : IsSceneOf (noted_in world from cell came did).1 from to legs (kept_in scene after)
-  pub seen : view names (kept_in scene after) ≡ view names scene
+  pub now : (log : List passages.Entry) → IsSceneOf (noted_in world from cell came did).1 from to legs (record (kept_in scene after) { log = log })
 
 -- The same at the receiving node, where what is seen then is the passage after the move.
 pub record IsStoodIn (names : List Name) (world : World) (from to : ℕ) (legs : ℕ → Option Leg) (scene : Scene) (what : What) (did : List Act) (after : NodeState) : Type 0 where

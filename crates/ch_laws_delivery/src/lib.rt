@@ -21,7 +21,7 @@ ghost use Rattle.ch_model.specs.declared.line.What.TheVariants.{Proc};
 ghost use Rattle.ch_model.specs.declared.local.LocalEvent.{LocalEvent};
 ghost use Rattle.ch_model.specs.declared.local.LocalEvent.TheVariants.{Make};
 ghost use Rattle.ch_laws_delivery.specs.UpLines.{IsWrittenAt, AreSocketsApart, IsWrittenIn};
-ghost use Rattle.ch_laws_delivery.specs.QuietLines.{AreNotes, IsToldBy, IsUnseenIn, IsStoodIn};
+ghost use Rattle.ch_laws_delivery.specs.QuietLines.{AreNotes, IsToldBy, IsToldIn, IsStoodIn};
 ghost use Rattle.ch_model.specs.NodeLives.{make};
 ghost use Rattle.ch_model.specs.NodeEnds.{over};
 ghost use Rattle.ch_ident.specs.declared.reason.Reason.{Reason};
@@ -264,10 +264,11 @@ pub fn sent_by_a_line()
 
 /// A line that a node answers by telling something, and asks nothing of its host, as those of `own_mail`, in a world that has
 /// the scene of two nodes: it is answered `ok`, and the world after it has the scene with the node after it. At the sending
-/// node what is seen then is as before; at the receiving node it is the passage after the move.
+/// node what is seen of that is what `unseen_at_the_sender`, `reconnected_without_a_connection` or `said_on_a_broken_pair`
+/// says; at the receiving node it is the passage after the move.
 pub fn told_by_a_line()
-    ensures sender { (names : List Name) (world : World) (from to : ℕ) (legs : ℕ → Option Leg) (scene : Scene) (what : What) (event : LocalEvent) (did : List Act) (after : NodeState)
-        → IsSceneOf world from to legs scene → IsToldBy world from scene.from what event did after → Keeps scene.from.node after → IsUnseenIn names world from to legs scene what did after }
+    ensures sender { (world : World) (from to : ℕ) (legs : ℕ → Option Leg) (scene : Scene) (what : What) (event : LocalEvent) (did : List Act) (after : NodeState)
+        → IsSceneOf world from to legs scene → IsToldBy world from scene.from what event did after → IsToldIn world from to legs scene what did after }
     ensures receiver { (names : List Name) (world : World) (from to : ℕ) (legs : ℕ → Option Leg) (scene : Scene) (what : What) (event : LocalEvent) (did : List Act) (after : NodeState)
         → IsSceneOf world from to legs scene → IsToldBy world to scene.to what event did after → Faithful names scene → Ages scene.to.node after → IsStoodIn names world from to legs scene what did after }
 {}
