@@ -36,3 +36,4 @@ pub mod Worlds
 pub mod QuietLines
 pub mod UpCells
 pub mod UpWorlds
+pub mod Names

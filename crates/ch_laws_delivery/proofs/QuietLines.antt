@@ -22,7 +22,6 @@ use Rattle.ch_model.specs.CellSteps as cells
 use Rattle.ch_model.specs.CellSteps.{Followed, after_entries, acts_on, all_items, with_node}
 use Rattle.ch_model.specs.Cell.{answered, room_for, node_did, commanded, cell_step}
 use Rattle.ch_laws_delivery.specs.Scene.{Name, Party, Scene}
-use Rattle.ch_laws_delivery.specs.Quiets.{Keeps}
 use Rattle.ch_laws_delivery.specs.Standings.{Faithful, Ages}
 use Rattle.ch_laws_delivery.specs.Sends.{IsSettled}
 use Rattle.ch_laws_delivery.specs.Cells.{IsAt}

@@ -12,7 +12,7 @@ ghost use Rattle.ch_base.specs.declared.event.Room.{Room};
 ghost use Rattle.ch_base.specs.declared.event.Why.{Why};
 ghost use Rattle.ch_base.specs.declared.event.Why.TheVariants.{Disconnect, NodeDown};
 ghost use Rattle.ch_model.specs.NodePairs.{lost_pairs};
-ghost use Rattle.ch_static.specs.declared.command.Command.TheVariants.{Receive, Take, OpenPort};
+ghost use Rattle.ch_static.specs.declared.command.Command.TheVariants.{Receive, Take, OpenPort, Register, Unregister};
 ghost use Rattle.ch_model.specs.declared.act.Act.{Act};
 ghost use Rattle.ch_model.specs.declared.note.Origin.{Origin};
 ghost use Rattle.ch_model.specs.Node.{node_make, node_command};
@@ -135,6 +135,12 @@ pub fn own_mail()
     ensures opened { (node : NodeState) (by : ℕ) (room : Room) (did : List Act) (now : NodeState) → node_command node by OpenPort room ≡ Ok (did, now) → (Keeps node now × Ages node now) × AreNotes did }
     ensures made { (node : NodeState) (origin : Option Origin) (args : List ℕ) (did : List Act) (now : NodeState) → make node origin args ≡ Ok (did, now) → (Keeps node now × Ages node now) × AreNotes did }
     ensures proc { (node : NodeState) (did : List Act) (now : NodeState) → node_make node ≡ Ok (did, now) → (Keeps node now × Ages node now) × AreNotes did }
+{}
+
+/// So it is that a process registers a name of its node, or takes one away.
+pub fn names_that_change()
+    ensures registered { (node : NodeState) (by : ℕ) (name : List ℕ) (room : Room) (did : List Act) (now : NodeState) → node_command node by (Register name) room ≡ Ok (did, now) → (Keeps node now × Ages node now) × AreNotes did }
+    ensures taken { (node : NodeState) (by : ℕ) (name : List ℕ) (room : Room) (did : List Act) (now : NodeState) → node_command node by (Unregister name) room ≡ Ok (did, now) → (Keeps node now × Ages node now) × AreNotes did }
 {}
 
 /// A process of a node is over: at the receiving node that is an event as `stood_by_an_event` asks for; at the sending node, of
