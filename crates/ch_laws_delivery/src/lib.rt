@@ -335,5 +335,7 @@ pub fn sending_worlds()
     ensures up_scene { IsSceneOf (world_with both_up up_sockets) 0 1 up_legs both_up }
     ensures apart { AreSocketsApart up_legs }
     ensures up { Sends both_up the_name (cell_of_party both_up.from) }
+    ensures up_says { SaysUp the_names both_up 0 the_name 0 1024 0 false hello }
+    ensures up_line { IsLineOf (world_with both_up up_sockets) 0 both_up.from the_name the_process the_target }
     ensures later { Sends (said_once (Dialing 0)) the_name (cell_of_party (said_once (Dialing 0)).from) }
 {}

@@ -6,6 +6,8 @@ use Rattle.ch_link.specs.declared.LinkState.TheVariants.{Idle, Dialing, Up}
 use Rattle.ch_mail.specs.Mail.{life_of, make_of, newborn}
 use Rattle.ch_model.specs.Node.{node_make}
 use Rattle.ch_model.specs.NodeLives.{make}
+use Rattle.ch_light.specs.Ids.{id_of}
+use Rattle.ch_model.specs.NodeActs.{growing}
 use Rattle.ch_watch.specs.Same.{same_node}
 use Rattle.ch_model.specs.HostCalls.{host_room}
 use Rattle.ch_model.specs.NodeConnections.{conn_to}
@@ -119,3 +121,10 @@ returns-clause-apart z = λ i j a b p q same. by_tests i j a b (nat_eq i 1) refl
 pub returns-clause-up : goal.returns-clause-up
 unfolding life_of pair_of is_pair same_target same_process same_node acting not_spent opened_besides conn_to host_room
 returns-clause-up z = record { at = record { host = refl; node = refl; settled = refl }; acts = refl; at_peer = refl }
+
+pub returns-clause-up_says : goal.returns-clause-up_says
+unfolding life_of pair_of is_pair same_target same_process growing id_of same_node
+returns-clause-up_says z = record { known = refl; lives = refl; opened = refl; away = refl; grows = refl; carried = refl; up = refl; given = refl; used = refl; short = refl }
+
+pub returns-clause-up_line : goal.returns-clause-up_line
+returns-clause-up_line z = record { home = refl; end = refl; process = refl; target = refl }
