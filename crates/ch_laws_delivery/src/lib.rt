@@ -247,18 +247,20 @@ pub fn shut_at_a_node()
     ensures off { (names : List Name) (scene : Scene) → scene.to.node.is_shut ≡ false → scene.created ≡ [] → IsShutOff names scene }
 {}
 
-/// A cell in which the sending node is, where no whole item is unread, makes of the command by which a process sends, on an
-/// open connection or as the first of an epoch, while the link isn't up, just that: it answers `ok`, the message is said, the host dials where nobody does;
-/// and what is seen then, with the cell's host and node, is the passage after the move.
+/// A cell in which the sending node is, where no whole item is unread, makes of the command by which a process sends just that.
+/// While the link isn't up, on an open connection or as the first of an epoch, it answers `ok`, the message is said, and the
+/// host dials where nobody does; on an open connection while the link is up the message's frame is written instead. What is
+/// seen then, with the cell's host and node, is the passage after the move.
 pub fn sent_at_a_cell()
     ensures later { (names : List Name) → AreApart names → (scene : Scene) (c : ℕ) (name : Name) (conn id : ℕ) (said : Message) → SaysOnOpen names scene c name conn id said → (cell : Cell) → Sends scene name cell → IsSentAt names scene c name said cell }
     ensures first { (names : List Name) → AreApart names → (scene : Scene) (c : ℕ) (name : Name) (conn : ℕ) (said : Message) → SaysFirst names scene c name conn said → (cell : Cell) → SendsFirst scene name cell → IsSentFirstAt names scene c name conn said cell }
     ensures up { (names : List Name) → AreApart names → (scene : Scene) (c : ℕ) (name : Name) (conn id sock : ℕ) (probed : Bool) (said : Message) → SaysUp names scene c name conn id sock probed said → (cell : Cell) → Sends scene name cell → IsWrittenAt names scene c name id sock said cell }
 {}
 
-/// A line by which a process sends to another node, on an open connection or as the first of an epoch, while the link isn't
-/// up, in a world that has the scene of the two nodes: the line is answered `ok`, the world after it has the scene after it, with the way between as the
-/// same sockets' bytes, and what is seen then is the passage after the move.
+/// A line by which a process sends to another node, on an open connection or as the first of an epoch while the link isn't up,
+/// or on an open connection while it is, in a world that has the scene of the two nodes: the line is answered `ok`, the world
+/// after it has the scene after it, with the way between as the same sockets' bytes, and where the link is up with the frame's
+/// bytes behind what is unread; and what is seen then is the passage after the move.
 pub fn sent_by_a_line()
     ensures later { (names : List Name) → AreApart names → (world : World) (from to : ℕ) (legs : ℕ → Option Leg) (scene : Scene) (c : ℕ) (name : Name) (conn id : ℕ) (said : Message) (by : ProcName) (target : TargetName)
         → (s : IsSceneOf world from to legs scene) → NamesAreNew world → IsLineOf world from scene.from name by target → SaysOnOpen names scene c name conn id said → Sends scene name s.sender.cell → IsSentIn names world from to legs scene c name said by target }
@@ -279,8 +281,9 @@ pub fn told_by_a_line()
         → IsSceneOf world from to legs scene → IsToldBy world to scene.to what event did after → Faithful names scene → Ages scene.to.node after → IsStoodIn names world from to legs scene what did after }
 {}
 
-/// What the laws ask can be had: small scenes, in which a first message is said, and a second, and the pair reconnects; the opening and the first
-/// are read; and the link loses its socket, at either node.
+/// What the laws ask can be had: small scenes, in which a first message is said, and a second, and the pair reconnects, while
+/// the link isn't up and while it is; the link comes up; the opening, the first message and the close are read; and the link
+/// fails, at either node.
 pub fn scenes()
     ensures apart { AreApart the_names }
     ensures first { SaysFirst the_names at_start 0 the_name 0 hello }
