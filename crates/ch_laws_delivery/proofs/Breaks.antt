@@ -3,14 +3,19 @@ use Rattle.std.specs.Prelude.{◌≡◌, ℕ, suc, ◌+◌, Bool, true, false, n
 use Rattle.std.proofs.Common.{refl, ap, sym, ◌∙◌, subst, arith}
 use Rattle.ch_base.specs.AddressValues.{AddressValue}
 use Rattle.ch_base.specs.declared.event.Event.TheVariants as events
-use Rattle.ch_base.specs.declared.event.Why.TheVariants.{Disconnect}
+use Rattle.ch_base.specs.declared.event.Why.{Why}
 use Rattle.ch_base.specs.declared.memory.Stop.{Stop}
 use Rattle.ch_base.specs.declared.memory.Stop.TheVariants as stops
 use Rattle.ch_light.specs.declared.Connection.{Connection}
 use Rattle.ch_link.specs.Table.{step_of}
 use Rattle.ch_link.specs.declared.LinkState.{LinkState}
 use Rattle.ch_link.specs.declared.LinkState.TheVariants.{Idle, Up}
-use Rattle.ch_link.specs.declared.LinkIn.TheVariants.{Gone}
+use Rattle.ch_link.specs.declared.LinkIn.{LinkIn}
+use Rattle.ch_link.specs.declared.LinkAct.{LinkAct}
+use Rattle.ch_link.specs.declared.LinkAct.TheVariants.{Fail}
+use Rattle.ch_model.specs.declared.act.Act.{Act}
+use Rattle.ch_model.specs.Greater.{is_greater}
+use Rattle.ch_model.specs.NodeLives.{reason_of}
 use Rattle.ch_static.specs.declared.target.Target.{Target}
 use Rattle.ch_static.specs.declared.target.Target.TheVariants as targets
 use Rattle.ch_watch.specs.declared.waiting.Waiting.{Waiting}
@@ -20,13 +25,13 @@ use Rattle.ch_wire.specs.declared.frame.Frame.{Frame}
 use Rattle.ch_model.specs.declared.step.Step.TheVariants as steps
 use Rattle.ch_model.specs.declared.step.Weight.{Weight}
 use Rattle.ch_model.specs.HostState.{Link, HostState}
-use Rattle.ch_model.specs.HostSteps.{link_with, with_link}
+use Rattle.ch_model.specs.HostSteps.{own_address, link_with, with_link}
 use Rattle.ch_model.specs.HostWrites.{is_up, end_socket, forgotten}
 use Rattle.ch_model.specs.HostLinks.{hears}
 use Rattle.ch_model.specs.NodeState as nodes
 use Rattle.ch_model.specs.NodeState.{NodeState, Pair}
 use Rattle.ch_model.specs.NodeActs.{◌>>=◌, each_in_turn, growing}
-use Rattle.ch_model.specs.NodeIds.{target_at}
+use Rattle.ch_model.specs.NodeIds.{reference_to, target_at}
 use Rattle.ch_model.specs.NodePairs.{same_target, is_pair, new_pair, pair_of, next_epoch, broken, lost_as, lost_pair, lost_pairs}
 use Rattle.ch_model.specs.NodeArrivals.{lost_told, peer_lost}
 use Rattle.ch_model.specs.Node.{node_event}
@@ -36,7 +41,11 @@ use Rattle.ch_delivery.specs.Moves.{Break, mark_lost, epoch_lost, index_lost, af
 use Rattle.ch_laws_delivery.specs.Scene.{Name, Party, Scene, link_of}
 use Rattle.ch_laws_delivery.specs.Sending.{is_named, named, bare, mark_as, has_ended, pair_at, mark_of, epoch_of, index_of, items_of}
 use Rattle.ch_laws_delivery.specs.View.{view}
-use Rattle.ch_laws_delivery.specs.Losses.{LosesSocket, host_after, node_after, broken_in, IsBroken}
+use Rattle.ch_laws_delivery.specs.Losses.{Fails, LosesSocket, host_after, node_after, HostFails, IsSilent, broken_in, IsBroken}
+use Rattle.ch_laws_delivery.proofs.Rises.{does_told}
+use Rattle.ch_laws_delivery.proofs.Quiets.{is_unseen}
+use Rattle.ch_laws_delivery.proofs.OwnMail.{Still}
+use Rattle.ch_laws_delivery.proofs.Tells.{each_still, watch_still}
 use Rattle.ch_laws_delivery.proofs.Keys.{link_kept, link_named, pair_key, pair_named}
 use Rattle.ch_laws_delivery.proofs.Alike.{sending_alike}
 
@@ -50,11 +59,10 @@ refuses {X = X} e x h = absurd (clash h) where
 
 -- ---- the host
 
-fails_up : (end : ℕ) (peer : AddressValue) (waits : List (Frame × Weight)) (given created : List Connection) (sock : ℕ) (probed : Bool) (host : HostState)
-    → hears Gone (record { end = end; peer = peer; state = Up sock probed; waits = waits; given = given; created = created }) host
-    ≡ Ok (steps.Down sock ∷ steps.Broke end peer Disconnect ∷ steps.Post end (events.ConnectionLost peer Disconnect) ∷ [], host_after host (record { end = end; peer = peer; state = Up sock probed; waits = waits; given = given; created = created }) sock)
-unfolding step_of
-fails_up end peer waits given created sock probed host = refl
+fails_up : (end : ℕ) (peer : AddressValue) (waits : List (Frame × Weight)) (given created : List Connection) (input : LinkIn) (sock : ℕ) (probed : Bool) (why : Why) (host : HostState) → step_of (Up sock probed) input (is_greater (own_address host end) peer) ≡ (Idle, Fail why)
+    → hears input (record { end = end; peer = peer; state = Up sock probed; waits = waits; given = given; created = created }) host
+    ≡ Ok (steps.Down sock ∷ steps.Broke end peer why ∷ steps.Post end (events.ConnectionLost peer why) ∷ [], host_after host (record { end = end; peer = peer; state = Up sock probed; waits = waits; given = given; created = created }) sock)
+fails_up end peer waits given created input sock probed why host h = ap (λ (told : LinkState × LinkAct). does_told told input (record { end = end; peer = peer; state = Up sock probed; waits = waits; given = given; created = created }) host) h
 
 -- ---- a pair
 
@@ -192,26 +200,37 @@ index_stays name nodes.Unopened k not = refl
 index_stays name nodes.Broken k not = refl
 index_stays name (nodes.Opened conn) k not = absurd (not conn refl)
 
--- a party whose link was up and lost its socket
-module _ (party : Party) (sock : ℕ) (probed : Bool) (pairs : List Pair) (up : (link_of party).state ≡ Up sock probed) (pairs_lost : lost_pairs party.peer party.node.pairs ≡ Ok pairs)
-    (unwatched : (lost_of party.node.watches party.peer).0 ≡ []) where
+-- a party whose link was up and failed
+pub fails : (party : Party) (input : LinkIn) (sock : ℕ) (probed : Bool) (why : Why) → Fails party input sock probed why → HostFails party input sock why
+fails party input sock probed why h = let l = link_of party in
+    ap (λ (s : LinkState). hears input (record l { state = s }) party.host) h.up ∙ fails_up l.end l.peer l.waits l.given l.created input sock probed why party.host h.fails
+
+module _ (party : Party) (sock : ℕ) where
   abbrev Own : Link
   Own = link_of party
-
-  pub fails : hears Gone Own party.host ≡ Ok (steps.Down sock ∷ steps.Broke Own.end Own.peer Disconnect ∷ steps.Post Own.end (events.ConnectionLost Own.peer Disconnect) ∷ [], host_after party.host Own sock)
-  fails = ap (λ (s : LinkState). hears Gone (record Own { state = s }) party.host) up ∙ fails_up Own.end Own.peer Own.waits Own.given Own.created sock probed party.host
-
-  pub loses : node_event party.node (events.ConnectionLost party.peer Disconnect) ≡ Ok ([], node_after party pairs)
-  unfolding node_event peer_lost
-  loses = ap (λ (r : Result (List Pair) Stop). r >>= (λ now. each_in_turn (lost_told Disconnect) (lost_of party.node.watches party.peer).0 (node_after party now))) pairs_lost
-      ∙ ap (λ (waiting : List Waiting). each_in_turn (lost_told Disconnect) waiting (node_after party pairs)) unwatched
 
   pub link_now : link_with (host_after party.host Own sock) party.end party.peer ≡ forgotten Own Idle
   link_now = let key = link_named party.host party.end party.peer in
       ap (λ (z : ℕ). link_with (host_after party.host Own sock) z party.peer) (sym key.0) ∙ ap (λ (z : AddressValue). link_with (host_after party.host Own sock) Own.end z) (sym key.1)
       ∙ link_kept (forgotten Own Idle) (end_socket sock (with_link (record Own { state = Idle }) party.host))
 
-module _ (names : List Name) (scene : Scene) (sock : ℕ) (probed : Bool) (pairs : List Pair) (h : LosesSocket names scene sock probed pairs) where
+module _ (party : Party) (why : Why) (pairs : List Pair) (pairs_lost : lost_pairs party.peer party.node.pairs ≡ Ok pairs) where
+  abbrev Told : Result (List Act × NodeState) Stop
+  Told = each_in_turn (lost_told why) (lost_of party.node.watches party.peer).0 (node_after party pairs)
+
+  hears_it : node_event party.node (events.ConnectionLost party.peer why) ≡ Told
+  unfolding node_event peer_lost
+  hears_it = ap (λ (r : Result (List Pair) Stop). r >>= (λ now. each_in_turn (lost_told why) (lost_of party.node.watches party.peer).0 (node_after party now))) pairs_lost
+
+  pub silent : IsSilent party why pairs
+  silent unwatched = hears_it ∙ ap (λ (waiting : List Waiting). each_in_turn (lost_told why) waiting (node_after party pairs)) unwatched
+
+  -- its processes are told, and it is as before otherwise
+  pub tells_still : (did : List Act) (now : NodeState) → node_event party.node (events.ConnectionLost party.peer why) ≡ Ok (did, now) → Still (node_after party pairs) now
+  unfolding lost_told
+  tells_still did now h = each_still (lost_told why) (λ waiting m. watch_still waiting.kind m (reference_to m waiting.number) (reason_of why) waiting.owner) (lost_of party.node.watches party.peer).0 (node_after party pairs) did now (sym hears_it ∙ h)
+
+module _ (names : List Name) (scene : Scene) (input : LinkIn) (sock : ℕ) (probed : Bool) (why : Why) (pairs : List Pair) (f : Fails scene.from input sock probed why) (h : LosesSocket names scene pairs) where
   abbrev N : NodeState
   N = scene.from.node
 
@@ -222,7 +241,7 @@ module _ (names : List Name) (scene : Scene) (sock : ℕ) (probed : Bool) (pairs
   Now = node_after scene.from pairs
 
   forgets : link_with (host_after scene.from.host (link_of scene.from) sock) scene.from.end scene.from.peer ≡ forgotten (link_of scene.from) Idle
-  forgets = link_now scene.from sock probed pairs h.up h.pairs_lost h.unwatched
+  forgets = link_now scene.from sock
 
   module _ (d : ℕ) (name : Name) (is : slice_get names d ≡ Some name) where
     abbrev P : Pair
@@ -270,9 +289,13 @@ module _ (names : List Name) (scene : Scene) (sock : ℕ) (probed : Bool) (pairs
     by_shut false = refl
   index_now d (Some name) is = index_by d name is (has_ended N name.by) refl
 
-  seen_now : view names (broken_in scene sock pairs) ≡ after Break V
-  seen_now = sending_alike (view names (broken_in scene sock pairs)) (after Break V) refl (λ d. mark_now d (slice_get names d) refl) (λ d. epoch_now d (slice_get names d) refl) (λ d. index_now d (slice_get names d) refl)
+  seen_now : view names (broken_in scene sock Now) ≡ after Break V
+  seen_now = sending_alike (view names (broken_in scene sock Now)) (after Break V) refl (λ d. mark_now d (slice_get names d) refl) (λ d. epoch_now d (slice_get names d) refl) (λ d. index_now d (slice_get names d) refl)
       (ap (λ (l : Link). items_of [] l.waits) forgets) (ap (λ (l : Link). is_up l.state) forgets) refl refl refl refl (λ d e. refl) (λ d. refl) refl
 
-  pub is_broken : IsBroken names scene sock pairs
-  is_broken = record { host_fails = fails scene.from sock probed pairs h.up h.pairs_lost h.unwatched; node_loses = loses scene.from sock probed pairs h.up h.pairs_lost h.unwatched; seen = seen_now }
+  pub is_broken : IsBroken names scene input sock why pairs
+  is_broken = record {
+    host_fails = fails scene.from input sock probed why f;
+    silent = silent scene.from why pairs h.pairs_lost;
+    seen = λ did now heard. is_unseen (broken_in scene sock Now) now (tells_still scene.from why pairs h.pairs_lost did now heard).0 names ∙ seen_now;
+  }

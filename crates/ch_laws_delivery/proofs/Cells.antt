@@ -90,15 +90,14 @@ accepts n by to said room acts away short roomy =
     ∙ ap (λ (r : Result (Unit {0}) CommandError). node.◌>>=◌ r (λ more. stopping (say n (pair_of n.pairs by to) said))) roomy
 
 -- the link that isn't up has room
-room_there : (n : NodeState) (pair : Pair) (room : Room) (mark : nodes.Mark) → is_here n (target_at pair.to) ≡ false → pair.mark ≡ mark → is_broken mark ≡ false → room.up ≡ false → nat_le most_waiting room.waits ≡ false
+room_there : (n : NodeState) (pair : Pair) (room : Room) (mark : nodes.Mark) → is_here n (target_at pair.to) ≡ false → pair.mark ≡ mark → is_broken mark ≡ false → (room.up || not (nat_le most_waiting room.waits)) ≡ true
     → not_spent n pair room ≡ Ok tt → room_to_send n pair room ≡ Ok tt
 unfolding room_to_send not_full
-room_there n pair room mark away is sound down waits spent =
+room_there n pair room mark away is sound free spent =
     ap (λ b. if b || is_broken pair.mark then Ok tt else node.◌>>=◌ (if is_here n (target_at pair.to) || (room.up || not (nat_le most_waiting room.waits)) then Ok tt else Err Full) (λ free. not_spent n pair room)) away
     ∙ ap (λ b. if b then Ok tt else node.◌>>=◌ (if is_here n (target_at pair.to) || (room.up || not (nat_le most_waiting room.waits)) then Ok tt else Err Full) (λ free. not_spent n pair room)) (ap is_broken is ∙ sound)
-    ∙ ap (λ b. node.◌>>=◌ (if b || (room.up || not (nat_le most_waiting room.waits)) then Ok tt else Err Full) (λ free. not_spent n pair room)) away
-    ∙ ap (λ b. node.◌>>=◌ (if b || not (nat_le most_waiting room.waits) then Ok tt else Err Full) (λ free. not_spent n pair room)) down
-    ∙ ap (λ b. node.◌>>=◌ (if not b then Ok tt else Err Full) (λ free. not_spent n pair room)) waits
+    ∙ ap (λ b. node.◌>>=◌ (if b || (room.up || not (nat_le most_waiting room.waits)) then Ok tt else Err Full) (λ some. not_spent n pair room)) away
+    ∙ ap (λ b. node.◌>>=◌ (if b then Ok tt else Err Full) (λ some. not_spent n pair room)) free
     ∙ spent
 
 -- a payload that is counted has room where fewer wait than the most
@@ -110,6 +109,9 @@ has_waits link pair down room = by_waits (nat_le most_waiting (counted_in link))
   by_waits : (b : Bool) → nat_le most_waiting (counted_in link) ≡ b → (if nat_le most_waiting (counted_in link) then Err QueueFull else Ok link) ≡ Ok link → nat_le most_waiting (counted_in link) ≡ false
   by_waits false is q = is
   by_waits true is q = absurd (clash (sym (ap (λ b. if b then Err QueueFull else Ok link) is) ∙ q))
+
+has_free : (link : Link) → is_up link.state ≡ false → nat_le most_waiting (counted_in link) ≡ false → (is_up link.state || not (nat_le most_waiting (counted_in link))) ≡ true
+has_free link down waits = ap (λ b. b || not (nat_le most_waiting (counted_in link))) down ∙ ap not waits
 
 -- ---- the cell
 
@@ -133,12 +135,12 @@ settles : (cell : Cell) (fuel : ℕ) → IsSettled cell.host → items_on fuel c
 settles cell zero h = refl
 settles cell (suc fuel) h = ap (one_more (items_on fuel) cell) (next_none cell.host h)
 
-abbrev at_of : Cell → (NodeState → Celled) → Option (ℕ × NodeState) → Celled
+abbrev pub at_of : Cell → (NodeState → Celled) → Option (ℕ × NodeState) → Celled
 at_of cell f None = refused verdicts.Nothing cell
 at_of cell f (Some known) = f known.1
 
 -- the node that is kept is found
-found_stored : (end : ℕ) (now : NodeState) (known : List (ℕ × NodeState)) (one : ℕ × NodeState) → find (is_at end) known ≡ Some one → find (is_at end) (store_node end now known) ≡ Some (end, now)
+pub found_stored : (end : ℕ) (now : NodeState) (known : List (ℕ × NodeState)) (one : ℕ × NodeState) → find (is_at end) known ≡ Some one → find (is_at end) (store_node end now known) ≡ Some (end, now)
 found_stored end now [] one h = absurd (clash h) where
   clash : ◌≡◌ {A = Option (ℕ × NodeState)} None (Some one) → ⊥
   clash e = cc
@@ -149,7 +151,7 @@ found_stored end now (first ∷ rest) one h = by_test (is_at end first) refl h (
   by_test false is q f = ap (λ b. cond b (Some first) (find (is_at end) (store_node end now rest))) is ∙ f q
 
 -- an act by which the host takes something
-puts_on : (end conn : ℕ) (payload : List ℕ) (weight : Weight) (rest : List Act) (cell : Cell) (done : List Step) (host : HostState) → host_send cell.host end conn payload weight ≡ Ok (done, host)
+pub puts_on : (end conn : ℕ) (payload : List ℕ) (weight : Weight) (rest : List Act) (cell : Cell) (done : List Step) (host : HostState) → host_send cell.host end conn payload weight ≡ Ok (done, host)
     → acts_on end (acts.Put conn payload weight ∷ rest) cell ≡ after_entries (told_steps done) (acts_on end rest (record cell { host = host }))
 puts_on end conn payload weight rest cell done host h = ap (λ (r : Result (List Step × HostState) EndError). cells.◌then◌ (asked cell r) (acts_on end rest)) h
 
@@ -160,8 +162,8 @@ opens_on end conn peer rest cell done host h = ap (λ (r : Result (List Step × 
 -- ---- the command
 
 module _ (party : Party) (cell : Cell) (at : IsAt party cell) (name : Name) (said : Message) (acting_is : acting party.node name.by ≡ Ok tt) (at_peer : target_at name.to ≡ party.peer)
-    (away : is_here party.node (target_at name.to) ≡ false) (down : is_up (link_of party).state ≡ false) (mark : nodes.Mark) (is : (pair_at party.node name).mark ≡ mark) (sound : is_broken mark ≡ false)
-    (waits : nat_le most_waiting (counted_in (link_of party)) ≡ false) (short : short_enough (payload_of name.to said) ≡ Ok (payload_of name.to said))
+    (away : is_here party.node (target_at name.to) ≡ false) (mark : nodes.Mark) (is : (pair_at party.node name).mark ≡ mark) (sound : is_broken mark ≡ false)
+    (free : (is_up (link_of party).state || not (nat_le most_waiting (counted_in (link_of party)))) ≡ true) (short : short_enough (payload_of name.to said) ≡ Ok (payload_of name.to said))
     (spent : not_spent party.node (pair_at party.node name) (host_room party.host party.end party.peer) ≡ Ok tt) where
   abbrev N : NodeState
   N = party.node
@@ -180,7 +182,7 @@ module _ (party : Party) (cell : Cell) (at : IsAt party cell) (name : Name) (sai
 
   roomy : room_to_send N P (host_room party.host party.end party.peer) ≡ Ok tt
   unfolding host_room
-  roomy = room_there N P (host_room party.host party.end party.peer) mark (ap (λ (z : Target). is_here N (target_at z)) to_is ∙ away) is sound down waits spent
+  roomy = room_there N P (host_room party.host party.end party.peer) mark (ap (λ (z : Target). is_here N (target_at z)) to_is ∙ away) is sound free spent
 
   abbrev Does : Result (List Act × NodeState) Stop → Celled
   Does r = node_did party.end cell (stopping r)
@@ -192,7 +194,7 @@ module _ (party : Party) (cell : Cell) (at : IsAt party cell) (name : Name) (sai
 
 -- ---- what follows
 
-ends_at : (entries : List LocalEntry) (cell : Cell) → IsSettled cell.host → answered verdicts.Ok (cells.◌then◌ (Ok (entries, cell)) all_items) ≡ Ok ((verdicts.Ok, entries), cell)
+pub ends_at : (entries : List LocalEntry) (cell : Cell) → IsSettled cell.host → answered verdicts.Ok (cells.◌then◌ (Ok (entries, cell)) all_items) ≡ Ok ((verdicts.Ok, entries), cell)
 ends_at entries cell h = ap (λ (r : Followed). answered verdicts.Ok (after_entries entries r)) (settles cell (kept_bytes cell.host) h) ∙ ap (λ (z : List LocalEntry). Ok ((verdicts.Ok, z), cell)) (append-nil entries)
 
 module _ (names : List Name) (apart : AreApart names) (scene : Scene) (c : ℕ) (name : Name) (conn id : ℕ) (said : Message) (h : SaysOnOpen names scene c name conn id said) (cell : Cell) (s : Sends scene name cell) where
@@ -233,7 +235,7 @@ module _ (names : List Name) (apart : AreApart names) (scene : Scene) (c : ℕ) 
   pub is_sent_at : IsSentAt names scene c name said cell
   is_sent_at = record {
     host = one.host;
-    answered = commands Own cell s.at name said s.acts s.at_peer h.away h.down (nodes.Opened conn) h.opened refl (has_waits (link_of Own) Q h.down h.room) short_name not_fresh
+    answered = commands Own cell s.at name said s.acts s.at_peer h.away (nodes.Opened conn) h.opened refl (has_free (link_of Own) h.down (has_waits (link_of Own) Q h.down h.room)) short_name not_fresh
         ∙ ap (λ (r : Result (List Act × NodeState) Stop). node_did Own.end cell (stopping r)) one.node_says
         ∙ ap (λ (r : Followed). answered verdicts.Ok (cells.◌then◌ r all_items)) carried_out
         ∙ ends_at (Entry ∷ Dials) (cell_with cell Own.end Now one.host) (one.settled s.at.settled);
@@ -284,7 +286,7 @@ module _ (names : List Name) (apart : AreApart names) (scene : Scene) (c : ℕ) 
   pub is_sent_first_at : IsSentFirstAt names scene c name conn said cell
   is_sent_first_at = record {
     host = begun.host;
-    answered = commands First cell s.at name said s.acts s.at_peer h.away h.down nodes.Unopened h.fresh refl h.room first_short s.unspent
+    answered = commands First cell s.at name said s.acts s.at_peer h.away nodes.Unopened h.fresh refl (has_free (link_of First) h.down h.room) first_short s.unspent
         ∙ ap (λ (r : Result (List Act × NodeState) Stop). node_did First.end cell (stopping r)) begun.node_says
         ∙ ap (λ (r : Followed). answered verdicts.Ok (cells.◌then◌ r all_items)) first_out
         ∙ ends_at (FirstEntry ∷ FirstDials) (cell_with cell First.end Opens begun.host) (begun.settled s.at.settled);

@@ -32,3 +32,8 @@ pub mod Overs
 pub mod Farewells
 pub mod Shuts
 pub mod Cells
+pub mod Worlds
+pub mod QuietLines
+pub mod UpCells
+pub mod UpWorlds
+pub mod Names

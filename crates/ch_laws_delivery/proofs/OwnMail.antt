@@ -21,15 +21,18 @@ use Rattle.ch_model.specs.declared.note.Note.TheVariants as notes
 use Rattle.ch_model.specs.declared.note.Origin.{Origin}
 use Rattle.ch_model.specs.NodeState.{NodeState}
 use Rattle.ch_model.specs.NodeActs as node
-use Rattle.ch_model.specs.NodeActs.{Answered, mailed, noting}
+use Rattle.ch_model.specs.NodeActs.{Answered, mailed, noting, stopping}
 use Rattle.ch_model.specs.NodeIds.{process_id}
 use Rattle.ch_model.specs.NodeLives.{with_process, make}
 use Rattle.ch_model.specs.NodeRoom.{acting}
 use Rattle.ch_model.specs.NodeCommands.{receive_of, take_port, open_port}
-use Rattle.ch_model.specs.Node.{node_command}
+use Rattle.ch_model.specs.Node.{node_make, node_command}
+use Rattle.ch_model.specs.declared.command.CommandError.TheVariants.{Dead}
+use Rattle.ch_model.specs.Refusals.{of_stop}
 use Rattle.ch_laws_delivery.specs.Standings.{Ages}
 use Rattle.ch_laws_delivery.specs.Quiets.{Keeps}
-use Rattle.ch_laws_delivery.proofs.Results.{given, went_node, went_mail, was_mailed, there_is, if_is}
+use Rattle.ch_laws_delivery.specs.QuietLines.{AreNotes}
+use Rattle.ch_laws_delivery.proofs.Results.{refused, given, went_node, went_mail, was_mailed, there_is, if_is}
 use Rattle.ch_laws_delivery.proofs.Mails.{read_same}
 
 -- no pair changes, and who is over is the same
@@ -99,32 +102,32 @@ open_lives mail number opened h i =
 
 -- ---- commands
 
-pub receives_still : (n : NodeState) (by : ℕ) (mark : List ℕ) (room : Room) (did : List Act) (now : NodeState) → node_command n by (commands.Receive mark) room ≡ Ok (did, now) → Still n now
+pub receives_still : (n : NodeState) (by : ℕ) (mark : List ℕ) (room : Room) (did : List Act) (now : NodeState) → node_command n by (commands.Receive mark) room ≡ Ok (did, now) → Still n now × AreNotes did
 unfolding node_command receive_of
 receives_still n by mark room did now h =
     let last : Message × List Process → Answered = λ taken. Ok (acts.Note (notes.Took (process_id n by) None taken.0) ∷ [], record n { mail = taken.1 }) in
     let one = went_node (acting n by) (λ live. node.◌>>=◌ (mailed (take_of n.mail by mark)) last) (did, now) h in
     let two = went_node (mailed (take_of n.mail by mark)) last (did, now) one.next in
-    subst (λ (z : NodeState). Still n z) (ap (λ (z : List Act × NodeState). z.1) (given (acts.Note (notes.Took (process_id n by) None two.value.0) ∷ [], record n { mail = two.value.1 }) (did, now) two.next))
-    (with_lives n two.value.1 (take_lives n.mail by mark two.value (was_mailed (take_of n.mail by mark) two.value two.is)))
+    subst (λ (z : List Act × NodeState). Still n z.1 × AreNotes z.0) (given (acts.Note (notes.Took (process_id n by) None two.value.0) ∷ [], record n { mail = two.value.1 }) (did, now) two.next)
+    (with_lives n two.value.1 (take_lives n.mail by mark two.value (was_mailed (take_of n.mail by mark) two.value two.is)), tt)
 
-pub takes_still : (n : NodeState) (by port : ℕ) (room : Room) (did : List Act) (now : NodeState) → node_command n by (commands.Take port) room ≡ Ok (did, now) → Still n now
+pub takes_still : (n : NodeState) (by port : ℕ) (room : Room) (did : List Act) (now : NodeState) → node_command n by (commands.Take port) room ≡ Ok (did, now) → Still n now × AreNotes did
 unfolding node_command take_port
 takes_still n by port room did now h =
     let last : Message × List Process → Answered = λ taken. Ok (acts.Note (notes.Took (process_id n by) (Some port) taken.0) ∷ [], record n { mail = taken.1 }) in
     let one = went_node (acting n by) (λ live. node.◌>>=◌ (mailed (take_port_of n.mail by port)) last) (did, now) h in
     let two = went_node (mailed (take_port_of n.mail by port)) last (did, now) one.next in
-    subst (λ (z : NodeState). Still n z) (ap (λ (z : List Act × NodeState). z.1) (given (acts.Note (notes.Took (process_id n by) (Some port) two.value.0) ∷ [], record n { mail = two.value.1 }) (did, now) two.next))
-    (with_lives n two.value.1 (take_port_lives n.mail by port two.value (was_mailed (take_port_of n.mail by port) two.value two.is)))
+    subst (λ (z : List Act × NodeState). Still n z.1 × AreNotes z.0) (given (acts.Note (notes.Took (process_id n by) (Some port) two.value.0) ∷ [], record n { mail = two.value.1 }) (did, now) two.next)
+    (with_lives n two.value.1 (take_port_lives n.mail by port two.value (was_mailed (take_port_of n.mail by port) two.value two.is)), tt)
 
-pub opens_still : (n : NodeState) (by : ℕ) (room : Room) (did : List Act) (now : NodeState) → node_command n by commands.OpenPort room ≡ Ok (did, now) → Still n now
+pub opens_still : (n : NodeState) (by : ℕ) (room : Room) (did : List Act) (now : NodeState) → node_command n by commands.OpenPort room ≡ Ok (did, now) → Still n now × AreNotes did
 unfolding node_command open_port
 opens_still n by room did now h =
     let last : ℕ × List Process → Answered = λ opened. Ok (acts.Note (notes.Port (record { process = process_id n by; port = opened.0 })) ∷ [], record n { mail = opened.1 }) in
     let one = went_node (acting n by) (λ live. node.◌>>=◌ (mailed (open_port_of n.mail by)) last) (did, now) h in
     let two = went_node (mailed (open_port_of n.mail by)) last (did, now) one.next in
-    subst (λ (z : NodeState). Still n z) (ap (λ (z : List Act × NodeState). z.1) (given (acts.Note (notes.Port (record { process = process_id n by; port = two.value.0 })) ∷ [], record n { mail = two.value.1 }) (did, now) two.next))
-    (with_lives n two.value.1 (open_lives n.mail by two.value (was_mailed (open_port_of n.mail by) two.value two.is)))
+    subst (λ (z : List Act × NodeState). Still n z.1 × AreNotes z.0) (given (acts.Note (notes.Port (record { process = process_id n by; port = two.value.0 })) ∷ [], record n { mail = two.value.1 }) (did, now) two.next)
+    (with_lives n two.value.1 (open_lives n.mail by two.value (was_mailed (open_port_of n.mail by) two.value two.is)), tt)
 
 -- ---- a process is made
 
@@ -135,13 +138,13 @@ push_ended [] (suc i) = refl
 push_ended (x ∷ xs) zero = refl
 push_ended (x ∷ xs) (suc i) = push_ended xs i
 
-pub makes_still : (n : NodeState) (origin : Option Origin) (args : List ℕ) (did : List Act) (now : NodeState) → make n origin args ≡ Ok (did, now) → Still n now
+pub makes_still : (n : NodeState) (origin : Option Origin) (args : List ℕ) (did : List Act) (now : NodeState) → make n origin args ≡ Ok (did, now) → Still n now × AreNotes did
 unfolding make make_of
 makes_still n origin args did now h =
     let last = λ (made : ℕ × List Process). noting (notes.Made (process_id n made.0) origin) (with_process n made.1 args) in
     let one = went_node (if nat_lt (length n.mail) last_u32 then Ok (length n.mail, n.mail ++ newborn ∷ []) else Err stops.Worn) last (did, now) h in
-    subst (λ (z : NodeState). Still n z) (ap (λ (z : List Act × NodeState). z.1) (given (acts.Note (notes.Made (process_id n one.value.0) origin) ∷ [], with_process n one.value.1 args) (did, now) one.next))
-    (by_mail one.value.1 (ap (λ (z : ℕ × List Process). z.1) (by_room (nat_lt (length n.mail) last_u32) one.value one.is))) where
+    subst (λ (z : List Act × NodeState). Still n z.1 × AreNotes z.0) (given (acts.Note (notes.Made (process_id n one.value.0) origin) ∷ [], with_process n one.value.1 args) (did, now) one.next)
+    (by_mail one.value.1 (ap (λ (z : ℕ × List Process). z.1) (by_room (nat_lt (length n.mail) last_u32) one.value one.is)), tt) where
       by_room : (b : Bool) (made : ℕ × List Process) → (if b then Ok (length n.mail, n.mail ++ newborn ∷ []) else Err stops.Worn) ≡ Ok made → (length n.mail, n.mail ++ newborn ∷ []) ≡ made
       by_room true made q = given (length n.mail, n.mail ++ newborn ∷ []) made q
       by_room false made q = absurd (clash q) where
@@ -153,3 +156,15 @@ makes_still n origin args did now h =
         record { pairs = refl; shut = refl; over = λ by. push_ended n.mail by },
         record { own = refl; unique = refl; arrived = refl; over = λ by over. push_ended n.mail by ∙ over },
       )
+
+-- by a line
+pub makes_own : (n : NodeState) (did : List Act) (now : NodeState) → node_make n ≡ Ok (did, now) → Still n now × AreNotes did
+unfolding node_make
+makes_own n did now h = by_shut n.is_shut h where
+  was : (r : Result (List Act × NodeState) Stop) → stopping r ≡ Ok (did, now) → r ≡ Ok (did, now)
+  was (Ok x) q = ap (λ (z : List Act × NodeState). Ok z) (given x (did, now) q)
+  was (Err e) q = refused (of_stop e) (did, now) q
+
+  by_shut : (b : Bool) → (if b then Err Dead else stopping (make n None [])) ≡ Ok (did, now) → Still n now × AreNotes did
+  by_shut true q = refused Dead (did, now) q
+  by_shut false q = makes_still n None [] did now (was (make n None []) q)

@@ -28,7 +28,7 @@ use Rattle.ch_laws_delivery.proofs.Alike.{sending_alike}
 -- ---- the host
 
 -- what a host does of what the table told
-abbrev does_told : LinkState × LinkAct → LinkIn → Link → HostState → Stepped
+abbrev pub does_told : LinkState × LinkAct → LinkIn → Link → HostState → Stepped
 does_told told input link host = does_act told.1 link.state input (record link { state = told.0 }) (with_link (record link { state = told.0 }) host)
 
 module _ (end : ℕ) (peer : AddressValue) (waits : List (Frame × Weight)) (given created : List Connection) (host : HostState) where

@@ -143,7 +143,7 @@ doom_still n number text = done_still n (record n { mail = (doom_at n.mail numbe
 
 -- ---- a watch is told
 
-watch_still : (kind : Kind) (n : NodeState) (watch : Ref) (reason : Reason) (owner : ℕ) → LeavesStill n (told_as kind n watch reason owner)
+pub watch_still : (kind : Kind) (n : NodeState) (watch : Ref) (reason : Reason) (owner : ℕ) → LeavesStill n (told_as kind n watch reason owner)
 unfolding monitor_told link_told
 watch_still kinds.Monitor n watch reason owner = λ did now h.
     let one = went_node (mail_to n owner (codes "$died") (spelling.reference watch ++ spelling.reason reason)) (λ (told : NodeState). noting (notes.Told watch reason) told) (did, now) h in

@@ -70,5 +70,7 @@ module _ (names : List Name) (apart : AreApart names) (scene : Scene) (c : ℕ) 
     host = wrote.now;
     node_says = says_it N P said conn h.grows h.opened (ap (λ (z : Target). is_here N (target_at z)) (to_is names apart scene c name (nodes.Opened conn) h.known h.lives h.opened) ∙ h.away);
     host_writes = sends scene.from.host scene.from.end conn (payload_of P.to said) (weight_at P) L id h.carried h.short roomy h.given ∙ wrote.did;
+    settled = wrote.settled;
+    link = link_now;
     seen = seen_now;
   }

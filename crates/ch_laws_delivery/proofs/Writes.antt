@@ -14,6 +14,7 @@ use Rattle.ch_model.specs.HostSteps.{after_steps, link_with, with_link, store_li
 use Rattle.ch_model.specs.HostWrites.{frame_step}
 use Rattle.ch_model.specs.HostLinks.{next_dial, hears}
 use Rattle.ch_model.specs.HostCalls.{stepped, puts_and_wants}
+use Rattle.ch_laws_delivery.specs.Sends.{IsSettled}
 use Rattle.ch_laws_delivery.proofs.Keys.{link_kept}
 
 -- The host writes the item and nothing more, and the link is as it was. It was kept twice.
@@ -21,6 +22,7 @@ pub record Writes (sock : ℕ) (item : Frame × Weight) (link : Link) (host : Ho
   pub now : HostState
   pub did : stepped (puts_and_wants item link host) ≡ Ok (frame_step sock item ∷ [], now)
   pub kept : link_with now link.end link.peer ≡ link
+  pub settled : IsSettled host → IsSettled now
   pub links : now.links ≡ store_link link (store_link link host.links)
 
 module _ (end : ℕ) (peer : AddressValue) (waits : List (Frame × Weight)) (given created : List Connection) (sock : ℕ) (probed : Bool) (item : Frame × Weight) (host : HostState) where
@@ -33,6 +35,7 @@ module _ (end : ℕ) (peer : AddressValue) (waits : List (Frame × Weight)) (giv
     now = with_link In (with_link In host);
     did = ap (λ (l : Link). stepped (after_steps (frame_step sock item ∷ []) (hears (Want (next_dial host)) l (with_link In host)))) (link_kept In host);
     kept = link_kept In (with_link In host);
+    settled = λ h. h;
     links = refl;
   }
 

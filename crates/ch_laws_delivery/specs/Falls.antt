@@ -1,43 +1,35 @@
--- The receiving node's link, which was up, loses its socket.
-use Rattle.std.specs.Prelude.{◌≡◌, ℕ, Bool, true, List, [], ◌∷◌, Ok}
+-- The receiving node's link, which was up, fails.
+use Rattle.std.specs.Prelude.{◌≡◌, ℕ, true, List, [], ◌∷◌, Ok}
 use Rattle.ch_base.specs.declared.event.Event.TheVariants as events
-use Rattle.ch_base.specs.declared.event.Why.TheVariants.{Disconnect}
-use Rattle.ch_link.specs.declared.LinkState.TheVariants.{Up}
-use Rattle.ch_link.specs.declared.LinkIn.TheVariants.{Gone}
-use Rattle.ch_model.specs.declared.step.Step.TheVariants as steps
-use Rattle.ch_model.specs.HostLinks.{hears}
-use Rattle.ch_model.specs.NodeState.{Pair}
-use Rattle.ch_model.specs.NodePairs.{lost_pairs}
+use Rattle.ch_base.specs.declared.event.Why.{Why}
+use Rattle.ch_link.specs.declared.LinkIn.{LinkIn}
+use Rattle.ch_model.specs.declared.act.Act.{Act}
+use Rattle.ch_model.specs.NodeState.{NodeState, Pair}
 use Rattle.ch_model.specs.Node.{node_event}
-use Rattle.ch_watch.specs.Watches.{lost_of}
-use Rattle.ch_delivery.specs.Passage.{Fell}
-use Rattle.ch_delivery.specs.Moves.{Fall, put, after}
+use Rattle.ch_delivery.specs.Passage.{Fell, Stood}
+use Rattle.ch_delivery.specs.Moves.{Fall, Stand, put, after, run}
 use Rattle.ch_laws_delivery.specs.Scene.{Name, Scene, link_of}
-use Rattle.ch_laws_delivery.specs.Losses.{host_after, node_after}
+use Rattle.ch_laws_delivery.specs.Losses.{host_after, node_after, HostFails, IsSilent}
+use Rattle.ch_laws_delivery.specs.Standings.{standings}
 use Rattle.ch_laws_delivery.specs.View.{view}
 
--- the link is up on a socket; the node's own pairs become these, and it watches nothing at the peer
-pub record FallsOff (scene : Scene) (sock : ℕ) (probed : Bool) (pairs : List Pair) : Type 0 where
-  pub up : (link_of scene.to).state ≡ Up sock probed
-  pub pairs_lost : lost_pairs scene.to.peer scene.to.node.pairs ≡ Ok pairs
-  pub unwatched : (lost_of scene.to.node.watches scene.to.peer).0 ≡ []
-
--- the scene after it: nothing comes from that socket any more
-abbrev pub fallen_in : Scene → ℕ → List Pair → Scene
-fallen_in scene sock pairs = record scene {
-  to = record (scene.to) { node = node_after scene.to pairs; host = host_after scene.to.host (link_of scene.to) sock };
+-- the scene after it, where the node is this: nothing comes from that socket any more
+abbrev pub fallen_in : Scene → ℕ → NodeState → Scene
+fallen_in scene sock now = record scene {
+  to = record (scene.to) { node = now; host = host_after scene.to.host (link_of scene.to) sock };
   way = record (scene.way) { flight = put scene.way.at [] scene.way.flight; cut = put scene.way.at true scene.way.cut };
   created = [];
   log = Fell ∷ scene.log;
 }
 
--- The host ends its end, tells that the link broke, and tells its node; the node forgets what arrived from the peer; and
--- what is seen then is the passage after the move.
-pub record IsFallen (names : List Name) (scene : Scene) (sock : ℕ) (pairs : List Pair) : Type 0 where
-  pub host_fails : hears Gone (link_of scene.to) scene.to.host
-      ≡ Ok (
-        steps.Down sock ∷ steps.Broke (link_of scene.to).end (link_of scene.to).peer Disconnect ∷ steps.Post (link_of scene.to).end (events.ConnectionLost (link_of scene.to).peer Disconnect) ∷ [],
-        host_after scene.to.host (link_of scene.to) sock,
-      )
-  pub node_loses : node_event scene.to.node (events.ConnectionLost scene.to.peer Disconnect) ≡ Ok ([], node_after scene.to pairs)
-  pub seen : view names (fallen_in scene sock pairs) ≡ after Fall (view names scene)
+-- and where what its processes are told then counts as a move of its own
+abbrev pub fallen_and_told_in : List Name → Scene → ℕ → NodeState → Scene
+fallen_and_told_in names scene sock now = record (fallen_in scene sock now) { log = Stood (standings names now) ∷ Fell ∷ scene.log }
+
+-- The host fails the link. Where the node watches nothing at the peer, what is seen then is the passage after the move; and
+-- whatever its processes are told, it is the passage after that and after who stands for a target then.
+pub record IsFallen (names : List Name) (scene : Scene) (input : LinkIn) (sock : ℕ) (why : Why) (pairs : List Pair) : Type 0 where
+  pub host_fails : HostFails scene.to input sock why
+  pub silent : IsSilent scene.to why pairs
+  pub seen : view names (fallen_in scene sock (node_after scene.to pairs)) ≡ after Fall (view names scene)
+  pub told : (did : List Act) (now : NodeState) → node_event scene.to.node (events.ConnectionLost scene.to.peer why) ≡ Ok (did, now) → view names (fallen_and_told_in names scene sock now) ≡ run (Fall ∷ Stand (standings names now) ∷ []) (view names scene)

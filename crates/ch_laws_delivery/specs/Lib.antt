@@ -25,3 +25,7 @@ pub mod Endings
 pub mod Shuts
 pub mod EndingRows
 pub mod Cells
+pub mod Worlds
+pub mod WorldRows
+pub mod QuietLines
+pub mod UpLines

@@ -7,6 +7,7 @@ use Rattle.ch_wire.specs.declared.frame.Frame.{Frame}
 use Rattle.ch_wire.specs.declared.frame.Frame.TheVariants as frames
 use Rattle.ch_model.specs.declared.step.Weight.{Weight}
 use Rattle.ch_model.specs.HostState.{HostState}
+use Rattle.ch_model.specs.HostSteps.{link_with}
 use Rattle.ch_model.specs.HostWrites.{frame_step}
 use Rattle.ch_model.specs.HostCalls.{carries, short_enough, host_send}
 use Rattle.ch_model.specs.NodeState as nodes
@@ -18,7 +19,7 @@ use Rattle.ch_model.specs.NodeSends.{payload_of, with_said, say}
 use Rattle.ch_delivery.specs.Moves.{Say, put, onto, after}
 use Rattle.ch_laws_delivery.specs.Scene.{Name, Use, Way, Scene, link_of}
 use Rattle.ch_laws_delivery.specs.Sending.{has_ended, pair_at, use_at, items_of}
-use Rattle.ch_laws_delivery.specs.Sends.{weight_at, acts_of, said_in}
+use Rattle.ch_laws_delivery.specs.Sends.{weight_at, acts_of, IsSettled, said_in}
 use Rattle.ch_laws_delivery.specs.View.{view}
 
 -- the way after these frames are written on the socket that the sending node is up on: nothing comes to an end that is cut
@@ -47,9 +48,12 @@ frame_of id pair said = (frames.Data id (payload_of pair.to said), weight_at pai
 abbrev pub written_in : Scene → ℕ → Pair → ℕ → Message → HostState → Scene
 written_in scene c pair id said host = record (said_in scene c pair host) { way = sent scene.given (frame_of id pair said ∷ []) scene.way }
 
--- The node says it, the host writes its frame and nothing more, and what is seen then is the passage after the move.
+-- The node says it, the host writes its frame and nothing more, the link is as it was, nothing more can be read than before, and
+-- what is seen then is the passage after the move.
 pub record IsWritten (names : List Name) (scene : Scene) (c : ℕ) (name : Name) (conn id sock : ℕ) (said : Message) : Type 0 where
   pub host : HostState
   pub node_says : say scene.from.node (pair_at scene.from.node name) said ≡ Ok (acts_of scene.from.node (pair_at scene.from.node name) conn said, keeping scene.from.node (with_said (pair_at scene.from.node name)))
   pub host_writes : host_send scene.from.host scene.from.end conn (payload_of (pair_at scene.from.node name).to said) (weight_at (pair_at scene.from.node name)) ≡ Ok (frame_step sock (frame_of id (pair_at scene.from.node name) said) ∷ [], host)
+  pub settled : IsSettled scene.from.host → IsSettled host
+  pub link : link_with host scene.from.end scene.from.peer ≡ link_of scene.from
   pub seen : view names (written_in scene c (pair_at scene.from.node name) id said host) ≡ after (Say c) (view names scene)

@@ -2,16 +2,26 @@
 //! move.
 //!
 //! No code: definitions of the view, and laws as clauses of empty functions. The whole model stands below, and the
-//! machine with its laws. What a node and its host do at one event is shown to be a move, event by event: that a whole line
-//! of a world is a run of moves, and that all that is asked here of a scene holds in a world, is open.
+//! machine with its laws. What a node and its host do at one event is shown to be a move, event by event; and so are lines of
+//! a world by which a process sends, takes a message, opens a port or is made. Of every other line that is open, and that
+//! all that is asked here of a scene holds in a world.
 #![tactic(auto)]
 
 ghost use Rattle.std.specs.Prelude.{◌≡◌, ◌<◌, ℕ, Bool, true, false, is_some, List, [], ◌∷◌, Option, Ok};
 ghost use Rattle.ch_base.specs.declared.event.Room.{Room};
-ghost use Rattle.ch_static.specs.declared.command.Command.TheVariants.{Receive, Take, OpenPort};
+ghost use Rattle.ch_base.specs.declared.event.Why.{Why};
+ghost use Rattle.ch_base.specs.declared.event.Why.TheVariants.{Disconnect, NodeDown};
+ghost use Rattle.ch_model.specs.NodePairs.{lost_pairs};
+ghost use Rattle.ch_static.specs.declared.command.Command.TheVariants.{Receive, Take, OpenPort, Register, Unregister};
 ghost use Rattle.ch_model.specs.declared.act.Act.{Act};
 ghost use Rattle.ch_model.specs.declared.note.Origin.{Origin};
-ghost use Rattle.ch_model.specs.Node.{node_command};
+ghost use Rattle.ch_model.specs.Node.{node_make, node_command};
+ghost use Rattle.ch_model.specs.declared.line.What.{What};
+ghost use Rattle.ch_model.specs.declared.line.What.TheVariants.{Proc};
+ghost use Rattle.ch_model.specs.declared.local.LocalEvent.{LocalEvent};
+ghost use Rattle.ch_model.specs.declared.local.LocalEvent.TheVariants.{Make};
+ghost use Rattle.ch_laws_delivery.specs.UpLines.{IsWrittenAt, AreSocketsApart, IsWrittenIn};
+ghost use Rattle.ch_laws_delivery.specs.QuietLines.{AreNotes, IsToldBy, IsToldIn, IsStoodIn};
 ghost use Rattle.ch_model.specs.NodeLives.{make};
 ghost use Rattle.ch_model.specs.NodeEnds.{over};
 ghost use Rattle.ch_ident.specs.declared.reason.Reason.{Reason};
@@ -29,13 +39,17 @@ ghost use Rattle.ch_laws_delivery.specs.UpReconnects.{ReconnectsUp, IsClosed};
 ghost use Rattle.ch_laws_delivery.specs.Bares.{SaysBroken, IsWasted, ReconnectsBare, IsRenewed};
 ghost use Rattle.ch_laws_delivery.specs.Quiets.{Keeps, kept_in};
 ghost use Rattle.ch_laws_delivery.specs.Endings.{Ends, Parting, Parts, IsParted, EndsWith, IsOver};
-ghost use Rattle.ch_model.specs.WorldState.{Cell};
+ghost use Rattle.ch_model.specs.WorldState.{Cell, World};
+ghost use Rattle.ch_model.specs.declared.name.ProcName.{ProcName};
+ghost use Rattle.ch_model.specs.declared.name.TargetName.{TargetName};
+ghost use Rattle.ch_laws_delivery.specs.Worlds.{Leg, IsSceneOf, NamesAreNew, IsLineOf, IsSentIn, IsSentFirstIn};
 ghost use Rattle.ch_laws_delivery.specs.Cells.{Sends, SendsFirst, IsSentAt, IsSentFirstAt};
 ghost use Rattle.ch_laws_delivery.specs.Shuts.{IsShut, IsShutThere, IsShutOff};
+ghost use Rattle.ch_laws_delivery.specs.WorldRows.{cell_of_party, world_with, no_legs, the_process, the_target, acts_of_proc, after_proc, up_sockets, up_legs, both_up};
 ghost use Rattle.ch_laws_delivery.specs.EndingRows.{broken_once, the_parting, over_here};
 ghost use Rattle.ch_laws_delivery.specs.Rises.{ComesUp, IsRisen, IsCome};
-ghost use Rattle.ch_laws_delivery.specs.Losses.{LosesSocket, IsBroken};
-ghost use Rattle.ch_laws_delivery.specs.Falls.{FallsOff, IsFallen};
+ghost use Rattle.ch_laws_delivery.specs.Losses.{Fails, LosesSocket, IsBroken};
+ghost use Rattle.ch_laws_delivery.specs.Falls.{IsFallen};
 ghost use Rattle.ch_laws_delivery.specs.Reconnects.{ReconnectsOpen, IsReconnected};
 ghost use Rattle.ch_light.specs.declared.Connection.{Connection};
 ghost use Rattle.ch_light.specs.Ids.{closed};
@@ -47,7 +61,7 @@ ghost use Rattle.ch_laws_delivery.specs.Standings.{Faithful, Ages, IsStood};
 ghost use Rattle.ch_laws_delivery.specs.Closings.{Closing, ClosesFirst, IsDeparted};
 ghost use Rattle.ch_delivery.specs.Passage.{Item, Created, Closed};
 ghost use Rattle.ch_link.specs.declared.LinkIn.{LinkIn};
-ghost use Rattle.ch_link.specs.declared.LinkIn.TheVariants.{Asked, Answered};
+ghost use Rattle.ch_link.specs.declared.LinkIn.TheVariants.{Asked, Answered, Gone, EndClosed};
 ghost use Rattle.ch_link.specs.declared.LinkAnswer.TheVariants.{Accepted};
 ghost use Rattle.ch_link.specs.declared.LinkState.TheVariants.{Dialing, Up};
 ghost use Rattle.ch_model.specs.NodeState.{Unread, Broken, ToNames};
@@ -114,12 +128,19 @@ pub fn unseen_at_the_sender()
 
 /// What concerns a process's own mail alone is nothing to see at the sending node, and at the receiving node is an event as
 /// `stood_by_an_event` asks for: it takes a message from its mailbox or a port, or opens a port; and so is it that a process
-/// is made.
+/// is made, by a spawn or a line. The node tells it, and asks nothing of its host.
 pub fn own_mail()
-    ensures received { (node : NodeState) (by : ℕ) (mark : List ℕ) (room : Room) (did : List Act) (now : NodeState) → node_command node by (Receive mark) room ≡ Ok (did, now) → Keeps node now × Ages node now }
-    ensures taken { (node : NodeState) (by port : ℕ) (room : Room) (did : List Act) (now : NodeState) → node_command node by (Take port) room ≡ Ok (did, now) → Keeps node now × Ages node now }
-    ensures opened { (node : NodeState) (by : ℕ) (room : Room) (did : List Act) (now : NodeState) → node_command node by OpenPort room ≡ Ok (did, now) → Keeps node now × Ages node now }
-    ensures made { (node : NodeState) (origin : Option Origin) (args : List ℕ) (did : List Act) (now : NodeState) → make node origin args ≡ Ok (did, now) → Keeps node now × Ages node now }
+    ensures received { (node : NodeState) (by : ℕ) (mark : List ℕ) (room : Room) (did : List Act) (now : NodeState) → node_command node by (Receive mark) room ≡ Ok (did, now) → (Keeps node now × Ages node now) × AreNotes did }
+    ensures taken { (node : NodeState) (by port : ℕ) (room : Room) (did : List Act) (now : NodeState) → node_command node by (Take port) room ≡ Ok (did, now) → (Keeps node now × Ages node now) × AreNotes did }
+    ensures opened { (node : NodeState) (by : ℕ) (room : Room) (did : List Act) (now : NodeState) → node_command node by OpenPort room ≡ Ok (did, now) → (Keeps node now × Ages node now) × AreNotes did }
+    ensures made { (node : NodeState) (origin : Option Origin) (args : List ℕ) (did : List Act) (now : NodeState) → make node origin args ≡ Ok (did, now) → (Keeps node now × Ages node now) × AreNotes did }
+    ensures proc { (node : NodeState) (did : List Act) (now : NodeState) → node_make node ≡ Ok (did, now) → (Keeps node now × Ages node now) × AreNotes did }
+{}
+
+/// So it is that a process registers a name of its node, or takes one away.
+pub fn names_that_change()
+    ensures registered { (node : NodeState) (by : ℕ) (name : List ℕ) (room : Room) (did : List Act) (now : NodeState) → node_command node by (Register name) room ≡ Ok (did, now) → (Keeps node now × Ages node now) × AreNotes did }
+    ensures taken { (node : NodeState) (by : ℕ) (name : List ℕ) (room : Room) (did : List Act) (now : NodeState) → node_command node by (Unregister name) room ≡ Ok (did, now) → (Keeps node now × Ages node now) × AreNotes did }
 {}
 
 /// A process of a node is over: at the receiving node that is an event as `stood_by_an_event` asks for; at the sending node, of
@@ -156,11 +177,12 @@ pub fn come_on_a_socket()
     ensures { (names : List Name) (scene : Scene) (input : LinkIn) (sock i : ℕ) → ComesUp scene.to input sock → scene.way.at < i → IsCome names scene input sock i }
 {}
 
-/// A link that is up and loses its socket breaks, where the node watches nothing at the peer: the host ends its end, tells
-/// that the link broke, forgets what waited and all connections, and tells its node; the node breaks its open pairs, and
-/// those with a name go on in their next epoch; and what is seen then is the passage after the move.
+/// A link that is up and fails, as its socket is lost, the peer closed its endpoint or didn't answer a probe, breaks: the host
+/// ends its end, tells that the link broke, forgets what waited and all connections, and tells its node; the node breaks its
+/// open pairs, and those with a name go on in their next epoch, whatever it tells its processes; and what is seen then is the
+/// passage after the move.
 pub fn broken_by_a_loss()
-    ensures { (names : List Name) (scene : Scene) (sock : ℕ) (probed : Bool) (pairs : List Pair) → LosesSocket names scene sock probed pairs → IsBroken names scene sock pairs }
+    ensures { (names : List Name) (scene : Scene) (input : LinkIn) (sock : ℕ) (probed : Bool) (why : Why) (pairs : List Pair) → Fails scene.from input sock probed why → LosesSocket names scene pairs → IsBroken names scene input sock why pairs }
 {}
 
 /// A message that is read first on the socket that the receiving node is up on, for a process or port whose process lives, or
@@ -201,11 +223,12 @@ pub fn closed_by_the_peer()
     ensures { (names : List Name) (scene : Scene) (rest : List Item) (k : Closing) → ClosesFirst scene rest k → IsDeparted names scene rest k }
 {}
 
-/// The receiving node's link that is up and loses its socket falls, where that node watches nothing at the peer: the host
-/// ends its end, tells that the link broke, forgets all connections, and tells its node, which forgets what arrived; and
-/// what is seen then, where nothing comes from that socket any more, is the passage after the move.
+/// The receiving node's link that is up and fails falls: the host ends its end, tells that the link broke, forgets all
+/// connections, and tells its node, which forgets what arrived. Where the node watches nothing at the peer, what is seen then,
+/// where nothing comes from that socket any more, is the passage after the move; and whatever its processes are told, it is the
+/// passage after that and after who stands for a target then.
 pub fn fallen_by_a_loss()
-    ensures { (names : List Name) (scene : Scene) (sock : ℕ) (probed : Bool) (pairs : List Pair) → FallsOff scene sock probed pairs → IsFallen names scene sock pairs }
+    ensures { (names : List Name) (scene : Scene) (input : LinkIn) (sock : ℕ) (probed : Bool) (why : Why) (pairs : List Pair) → Fails scene.to input sock probed why → lost_pairs scene.to.peer scene.to.node.pairs ≡ Ok pairs → IsFallen names scene input sock why pairs }
 {}
 
 /// Whatever becomes of the processes, ports and names of the receiving node, where its connections lead where their pairs do,
@@ -224,16 +247,43 @@ pub fn shut_at_a_node()
     ensures off { (names : List Name) (scene : Scene) → scene.to.node.is_shut ≡ false → scene.created ≡ [] → IsShutOff names scene }
 {}
 
-/// A cell in which the sending node is, where no whole item is unread, makes of the command by which a process sends, on an
-/// open connection or as the first of an epoch, while the link isn't up, just that: it answers `ok`, the message is said, the host dials where nobody does;
-/// and what is seen then, with the cell's host and node, is the passage after the move.
+/// A cell in which the sending node is, where no whole item is unread, makes of the command by which a process sends just that.
+/// While the link isn't up, on an open connection or as the first of an epoch, it answers `ok`, the message is said, and the
+/// host dials where nobody does; on an open connection while the link is up the message's frame is written instead. What is
+/// seen then, with the cell's host and node, is the passage after the move.
 pub fn sent_at_a_cell()
     ensures later { (names : List Name) → AreApart names → (scene : Scene) (c : ℕ) (name : Name) (conn id : ℕ) (said : Message) → SaysOnOpen names scene c name conn id said → (cell : Cell) → Sends scene name cell → IsSentAt names scene c name said cell }
     ensures first { (names : List Name) → AreApart names → (scene : Scene) (c : ℕ) (name : Name) (conn : ℕ) (said : Message) → SaysFirst names scene c name conn said → (cell : Cell) → SendsFirst scene name cell → IsSentFirstAt names scene c name conn said cell }
+    ensures up { (names : List Name) → AreApart names → (scene : Scene) (c : ℕ) (name : Name) (conn id sock : ℕ) (probed : Bool) (said : Message) → SaysUp names scene c name conn id sock probed said → (cell : Cell) → Sends scene name cell → IsWrittenAt names scene c name id sock said cell }
 {}
 
-/// What the laws ask can be had: small scenes, in which a first message is said, and a second, and the pair reconnects; the opening and the first
-/// are read; and the link loses its socket, at either node.
+/// A line by which a process sends to another node, on an open connection or as the first of an epoch while the link isn't up,
+/// or on an open connection while it is, in a world that has the scene of the two nodes: the line is answered `ok`, the world
+/// after it has the scene after it, with the way between as the same sockets' bytes, and where the link is up with the frame's
+/// bytes behind what is unread; and what is seen then is the passage after the move.
+pub fn sent_by_a_line()
+    ensures later { (names : List Name) → AreApart names → (world : World) (from to : ℕ) (legs : ℕ → Option Leg) (scene : Scene) (c : ℕ) (name : Name) (conn id : ℕ) (said : Message) (by : ProcName) (target : TargetName)
+        → (s : IsSceneOf world from to legs scene) → NamesAreNew world → IsLineOf world from scene.from name by target → SaysOnOpen names scene c name conn id said → Sends scene name s.sender.cell → IsSentIn names world from to legs scene c name said by target }
+    ensures first { (names : List Name) → AreApart names → (world : World) (from to : ℕ) (legs : ℕ → Option Leg) (scene : Scene) (c : ℕ) (name : Name) (conn : ℕ) (said : Message) (by : ProcName) (target : TargetName)
+        → (s : IsSceneOf world from to legs scene) → NamesAreNew world → IsLineOf world from scene.from name by target → SaysFirst names scene c name conn said → SendsFirst scene name s.sender.cell → IsSentFirstIn names world from to legs scene c name conn said by target }
+    ensures up { (names : List Name) → AreApart names → (world : World) (from to : ℕ) (legs : ℕ → Option Leg) (scene : Scene) (c : ℕ) (name : Name) (conn id sock : ℕ) (probed : Bool) (said : Message) (by : ProcName) (target : TargetName)
+        → (s : IsSceneOf world from to legs scene) → AreSocketsApart legs → IsLineOf world from scene.from name by target → SaysUp names scene c name conn id sock probed said → Sends scene name s.sender.cell → IsWrittenIn names world from to legs scene c name id sock said by target }
+{}
+
+/// A line that a node answers by telling something, and asks nothing of its host, as those of `own_mail`, in a world that has
+/// the scene of two nodes: it is answered `ok`, and the world after it has the scene with the node after it. At the sending
+/// node what is seen of that is what `unseen_at_the_sender`, `reconnected_without_a_connection` or `said_on_a_broken_pair`
+/// says; at the receiving node it is the passage after the move.
+pub fn told_by_a_line()
+    ensures sender { (world : World) (from to : ℕ) (legs : ℕ → Option Leg) (scene : Scene) (what : What) (event : LocalEvent) (did : List Act) (after : NodeState)
+        → IsSceneOf world from to legs scene → IsToldBy world from scene.from what event did after → IsToldIn world from to legs scene what did after }
+    ensures receiver { (names : List Name) (world : World) (from to : ℕ) (legs : ℕ → Option Leg) (scene : Scene) (what : What) (event : LocalEvent) (did : List Act) (after : NodeState)
+        → IsSceneOf world from to legs scene → IsToldBy world to scene.to what event did after → Faithful names scene → Ages scene.to.node after → IsStoodIn names world from to legs scene what did after }
+{}
+
+/// What the laws ask can be had: small scenes, in which a first message is said, and a second, and the pair reconnects, while
+/// the link isn't up and while it is; the link comes up; the opening, the first message and the close are read; and the link
+/// fails, at either node.
 pub fn scenes()
     ensures apart { AreApart the_names }
     ensures first { SaysFirst the_names at_start 0 the_name 0 hello }
@@ -247,8 +297,9 @@ pub fn scenes()
     ensures opening { OpensFirst the_names (up_with Unread (Created 0 0 ∷ message_item ∷ [])) the_name (message_item ∷ []) the_opening }
     ensures reading { ReadsFirst the_names (up_with bound_there (message_item ∷ [])) the_name [] the_reading }
     ensures closing { ClosesFirst (up_with bound_there (Closed 0 0 ∷ [])) [] the_closing }
-    ensures fall { FallsOff (up_with bound_there (message_item ∷ [])) 1 false [] }
-    ensures loss { LosesSocket the_names (said_once (Up 0 false)) 0 false (record open_pair { mark = Broken } ∷ []) }
+    ensures fall { Fails (up_with bound_there (message_item ∷ [])).to Gone 1 false Disconnect }
+    ensures shut { Fails (said_once (Up 0 false)).from EndClosed 0 false NodeDown }
+    ensures loss { LosesSocket the_names (said_once (Up 0 false)) (record open_pair { mark = Broken } ∷ []) }
 {}
 
 /// The same of what is read: that a connection is created; an opening and a message for a port and for a name; a message for
@@ -273,4 +324,21 @@ pub fn endings()
     ensures bare { ReconnectsBare the_names broken_once 0 the_name }
     ensures parting { Parts (said_once (Up 0 false)) the_parting }
     ensures ending { EndsWith the_names (said_once (Up 0 false)) 0 over_here (the_parting ∷ []) [] }
+{}
+
+/// The same of worlds: two nodes in cells of their own, where nothing was said yet, where one message waits, and where both are
+/// up; a line sends in each, and a process is made.
+pub fn sending_worlds()
+    ensures new { NamesAreNew (world_with at_start []) }
+    ensures scene { IsSceneOf (world_with at_start []) 0 1 no_legs at_start }
+    ensures line { IsLineOf (world_with at_start []) 0 at_start.from the_name the_process the_target }
+    ensures first { SendsFirst at_start the_name (cell_of_party at_start.from) }
+    ensures later_scene { IsSceneOf (world_with (said_once (Dialing 0)) []) 0 1 no_legs (said_once (Dialing 0)) }
+    ensures proc { IsToldBy (world_with at_start []) 0 at_start.from (Proc (97 ∷ [])) (Make 7) (acts_of_proc at_start.from.node) (after_proc at_start.from.node) }
+    ensures up_scene { IsSceneOf (world_with both_up up_sockets) 0 1 up_legs both_up }
+    ensures apart { AreSocketsApart up_legs }
+    ensures up { Sends both_up the_name (cell_of_party both_up.from) }
+    ensures up_says { SaysUp the_names both_up 0 the_name 0 1024 0 false hello }
+    ensures up_line { IsLineOf (world_with both_up up_sockets) 0 both_up.from the_name the_process the_target }
+    ensures later { Sends (said_once (Dialing 0)) the_name (cell_of_party (said_once (Dialing 0)).from) }
 {}

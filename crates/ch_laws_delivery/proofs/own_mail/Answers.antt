@@ -1,4 +1,4 @@
-use Rattle.ch_laws_delivery.proofs.OwnMail.{receives_still, takes_still, opens_still, makes_still}
+use Rattle.ch_laws_delivery.proofs.OwnMail.{receives_still, takes_still, opens_still, makes_still, makes_own}
 use Rattle.ch_laws_delivery.proofs.own_mail.Goals as goal
 
 pub returns-clause-received : goal.returns-clause-received
@@ -12,3 +12,6 @@ returns-clause-opened z = λ n by room did now h. opens_still n by room did now 
 
 pub returns-clause-made : goal.returns-clause-made
 returns-clause-made z = λ n origin args did now h. makes_still n origin args did now h
+
+pub returns-clause-proc : goal.returns-clause-proc
+returns-clause-proc z = λ n did now h. makes_own n did now h

@@ -75,11 +75,9 @@ returns-clause-second z = record {
 pub returns-clause-loss : goal.returns-clause-loss
 unfolding life_of pair_of is_pair same_target same_process same_node lost_pair lost_of
 returns-clause-loss z = record {
-  up = refl;
   at_peer = λ d name is. at d name is;
   closed = λ d name is over conn h. lives d name is over;
   pairs_lost = refl;
-  unwatched = refl;
 } where
   one : (d : ℕ) (name : Name) → slice_get the_names d ≡ Some name → the_name ≡ name
   one zero name is = ap (λ (o : Option Name). elim o [ Some x ↦ x | None ↦ the_name ]) is
@@ -130,8 +128,12 @@ returns-clause-reading z = record {
 }
 
 pub returns-clause-fall : goal.returns-clause-fall
-unfolding lost_of same_node
-returns-clause-fall z = record { up = refl; pairs_lost = refl; unwatched = refl }
+unfolding step_of same_node
+returns-clause-fall z = record { up = refl; fails = refl }
+
+pub returns-clause-shut : goal.returns-clause-shut
+unfolding step_of same_node
+returns-clause-shut z = record { up = refl; fails = refl }
 
 pub returns-clause-reconnect : goal.returns-clause-reconnect
 unfolding life_of pair_of is_pair same_target same_process growing id_of same_node close_of
