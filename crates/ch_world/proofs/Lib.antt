@@ -1,0 +1,4 @@
+pub mod EventLines
+pub mod Found
+pub mod Histories
+pub mod Told
