@@ -54,14 +54,14 @@ on_some {A = A} test f name g h world x same e = by_found (find (is_socket_named
 -- ---- names
 
 -- two tests that both pass
-both : (a b : Bool) → (a && b) ≡ true → (a ≡ true) × (b ≡ true)
+pub both : (a b : Bool) → (a && b) ≡ true → (a ≡ true) × (b ≡ true)
 both true b e = (refl, e)
 both false b e = absurd cc
 
-number_is : (a b : ℕ) → (a == b) ≡ true → a ≡ b
+pub number_is : (a b : ℕ) → (a == b) ≡ true → a ≡ b
 number_is a b e = grind (arith, nat_tests)
 
-text_is : (a b : List ℕ) → bytes_eq a b ≡ true → a ≡ b
+pub text_is : (a b : List ℕ) → bytes_eq a b ≡ true → a ≡ b
 text_is a b e = grind (arith, bytes_eq-Decides)
 
 pub named_alike : (a b : SockName) → same_socket a b ≡ true → a ≡ b

@@ -1,5 +1,5 @@
 -- The log of a journal that grows by a line.
-use Rattle.std.proofs.Common.{◌≡◌, ℕ, Bool, true, false, cond, ◌&&◌, List, [], ◌∷◌, ◌++◌, refl, sym, ap, ◌∙◌, subst, append_assoc}
+use Rattle.std.proofs.Common.{◌≡◌, ℕ, Bool, true, false, not, cond, ◌&&◌, List, [], ◌∷◌, ◌++◌, refl, sym, ap, ◌∙◌, subst, append_assoc}
 use Rattle.std.proofs.lemmas.List.{append-nil}
 use Rattle.std.specs.Prelude.{Result, Ok, Err, map, filter, length, None}
 use Rattle.std.specs.List.{flat_map, list_all}
@@ -13,7 +13,10 @@ use Rattle.ch_model.specs.WorldState.{Cell, Named, World}
 use Rattle.ch_model.specs.Cell.{cell_new}
 use Rattle.ch_model.specs.Settle.{Happened}
 use Rattle.ch_model.specs.World.{name_in, stranger_in, label_in, is_declaration, names_of, labels_of, same_host, first_of_hosts, world_new, event_step, world_step, log_from, log_of, ◌>>=◌}
-use Rattle.ch_world.specs.Histories.{all_declare}
+use Rattle.ch_base.specs.declared.memory.Stop.TheVariants as stops
+use Rattle.ch_cell.specs.Stops.{Stops}
+use Rattle.ch_world.specs.Lines.{is_settle}
+use Rattle.ch_world.specs.Histories.{Told, all_declare, is_event, with_line, told_step}
 
 -- ---- one more line
 
@@ -108,3 +111,27 @@ only_declared (line ∷ rest) world e = declared_first line rest world (is_decla
 -- the log of a journal, from the world that it makes on
 pub log_is : (lines : List Line) (log : List Entry) (state : World) → log_from (world_new lines) lines ≡ Ok (log, state) → log_of lines ≡ Ok log
 log_is lines log state e = ap (λ (r : Happened). r >>= (λ (done : List Entry × World). Ok done.0)) e
+
+-- ---- a world's histories
+
+-- an event declares nothing
+pub declares_nothing : (what : What) → is_event what ≡ true → is_declaration what ≡ false
+declares_nothing what e = by_test (is_declaration what) (is_settle what) e
+  where
+    by_test : (a b : Bool) → (not a && not b) ≡ true → a ≡ false
+    by_test true b e = absurd cc
+    by_test false b e = refl
+
+-- and doesn't settle
+pub settles_nothing : (what : What) → is_event what ≡ true → is_settle what ≡ false
+settles_nothing what e = by_test (is_declaration what) (is_settle what) e
+  where
+    by_test : (a b : Bool) → (not a && not b) ≡ true → b ≡ false
+    by_test true b e = absurd cc
+    by_test false true e = absurd cc
+    by_test false false e = refl
+
+-- a line that is stopped at stops the history
+pub stops_so : (line : Line) (told : Told) (stop : Stop) → Stops stop (world_step told.state line) → Stops stop (told_step line told)
+stops_so line told stops.OutOfMemory s = tt
+stops_so line told stops.Worn s = ap (with_line line told) s

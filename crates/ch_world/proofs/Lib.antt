@@ -2,3 +2,4 @@ pub mod EventLines
 pub mod Found
 pub mod Histories
 pub mod Told
+pub mod Declares
