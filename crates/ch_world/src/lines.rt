@@ -51,7 +51,7 @@ pub fn is_settle(what: &What) -> bool
 
 /// A line's answer before the entries of what it did.
 fn answered(number: u32, answer: Answer) -> Result<Vec<Entry>, OutOfMemory>
-    ensures { IfOk result (λ entries. entries.items ≡ entries.Line number answer.0 ∷ answer.1) }
+    ensures { IfOk result (λ all. all.items ≡ entries.Line number answer.0 ∷ answer.1) }
 {
     let Answer { verdict, entries } = answer;
     let line = Entry::Line {

@@ -4,6 +4,8 @@ ghost use Rattle.std.specs.Prelude.{◌≡◌, ◌<◌, [], length, position, fi
 ghost use Rattle.std.specs.Option.{option_map, option_copied};
 ghost use Rattle.std.specs.Str.{bytes_eq};
 ghost use Rattle.ch_model.specs.declared.name.End.TheVariants.{O, T};
+ghost use Rattle.ch_model.specs.declared.name.ProcName.{ProcName};
+ghost use Rattle.ch_static.specs.declared.command.Command.{Command};
 ghost use Rattle.ch_model.specs.Naming.{address_as as address_as_of, called as called_of};
 ghost use Rattle.ch_model.specs.Timers.{timer_runs_for as timer_runs_for_of};
 ghost use Rattle.ch_model.specs.WorldLines.{command_as as command_as_of, stranger_host as stranger_host_of, can_join as can_join_of, can_come as can_come_of, can_refuse as can_refuse_of, is_at_work as is_at_work_of, can_feed as can_feed_of, can_cut as can_cut_of, is_strangers as is_strangers_of};
@@ -122,7 +124,7 @@ impl Realm {
 
     /// The process that acts in a line, and its command; none for a line that is no command.
     pub(crate) fn command_as(&self, what: &What) -> Result<Option<Asked>, OutOfMemory>
-        ensures { IfOk result (λ asked. option_map (λ a. (a.by, a.command)) asked ≡ command_as_of self.now.names what.now) }
+        ensures { IfOk result (λ asked. option_map {U = ProcName × Command} (λ a. (a.by, a.command)) asked ≡ command_as_of self.now.names what.now) }
     {
         self.names.command_as(what)
     }

@@ -4,7 +4,6 @@ ghost use Rattle.std.specs.Prelude.{◌≡◌, ◌++◌, ◌∷◌, [], IfOk};
 ghost use Rattle.ch_model.specs.HostSteps.{own_address as own_address_of};
 ghost use Rattle.ch_model.specs.WorldSockets.{other as other_of};
 ghost use Rattle.ch_model.specs.WorldSteps.{noted, stepped as stepped_of, local_told, all_told};
-ghost use Rattle.ch_model.specs.declared.entry.Entry.TheVariants as entries;
 ghost use Rattle.ch_model.specs.declared.step.Step.TheVariants as steps;
 ghost use Rattle.ch_world.specs.Hosts.{cell_in};
 
