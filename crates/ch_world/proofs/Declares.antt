@@ -2,7 +2,7 @@
 use Rattle.std.proofs.Common.{◌≡◌, ℕ, Bool, true, false, ◌&&◌, ◌||◌, ◌==◌, cond, List, [], ◌∷◌, ◌++◌, map, filter, refl, sym, ap, ◌∙◌, subst, append_assoc, arith}
 use Rattle.std.proofs.lemmas.List.{reverse-append, map-append, append-nil}
 use Rattle.std.proofs.lemmas.List.Elements.{filter-append}
-use Rattle.std.specs.Prelude.{reverse, Option, None}
+use Rattle.std.specs.Prelude.{fold, reverse, Option, None}
 use Rattle.std.specs.Str.{bytes_eq}
 use Rattle.std.specs.List.{flat_map, list_any}
 use Rattle.ch_base.specs.declared.address.Address.{Address}
@@ -12,7 +12,7 @@ use Rattle.ch_model.specs.WorldState.{Cell, Named, WorldSocket, World}
 use Rattle.ch_model.specs.World.{stranger_in, names_of, nodes_of, same_host, first_of_hosts, world_new}
 use Rattle.ch_cell.specs.declared.site.Opening.{Opening}
 use Rattle.ch_cell.specs.New.{AreOf, named}
-use Rattle.ch_world.specs.Declaring.{opening_of, openings_at, cells_among}
+use Rattle.ch_world.specs.Declaring.{first_added, opening_of, openings_at, cells_among}
 use Rattle.ch_world.proofs.Found.{both, number_is, text_is}
 
 -- ---- one address of each host
@@ -42,6 +42,21 @@ new_host found node rest e =
     ∙ sym (append_assoc found (node.address ∷ []) (first_of_hosts (node.address ∷ reverse found) rest))
     ∙ ap (λ (known : List Address). (found ++ node.address ∷ []) ++ first_of_hosts known rest) (sym (reverse-append found (node.address ∷ [])))
 
+-- a node after those that were gone over
+first_next : (found : List Address) (node : Named) (rest : List Named) (b : Bool) → list_any (same_host node.address) found ≡ b
+    → ((found : List Address) → fold (λ found node. first_added found node.address) found rest ≡ found ++ first_of_hosts (reverse found) rest)
+    → fold (λ found node. first_added found node.address) (cond b found (found ++ node.address ∷ [])) rest ≡ found ++ first_of_hosts (reverse found) (node ∷ rest)
+first_next found node rest true e ih = ih found ∙ sym (known_host found node rest e)
+first_next found node rest false e ih = ih (found ++ node.address ∷ []) ∙ sym (new_host found node rest e)
+
+found_first : (nodes : List Named) (found : List Address) → fold (λ found node. first_added found node.address) found nodes ≡ found ++ first_of_hosts (reverse found) nodes
+found_first [] found = sym (append-nil found)
+found_first (node ∷ rest) found = first_next found node rest (list_any (same_host node.address) found) refl (found_first rest)
+
+-- one address after another, and those of the model
+pub firsts_are : (nodes : List Named) → fold (λ found node. first_added found node.address) [] nodes ≡ first_of_hosts [] nodes
+firsts_are nodes = found_first nodes []
+
 -- ---- the nodes of a host
 
 -- one more node of this host and port
@@ -55,14 +70,16 @@ host_alike a b e = text_is a.host b.host (both (bytes_eq a.host b.host) (a.port 
 pub port_alike : (a b : Address) → same_host a b ≡ true → a.port ≡ b.port
 port_alike a b e = number_is a.port b.port (both (bytes_eq a.host b.host) (a.port == b.port) e).1
 
-filter_one : {A : Type 0} (test : A → Bool) (x : A) (b : Bool) → test x ≡ b → filter test (x ∷ []) ≡ cond b (x ∷ []) []
-filter_one test x b e = ap (λ (b : Bool). cond b (x ∷ []) []) e
+-- what is told of some nodes and then of more
+pub openings_more : (lines : List Line) (nodes more : List Named) (address : Address) → openings_at lines (nodes ++ more) address ≡ openings_at lines nodes address ++ openings_at lines more address
+openings_more lines nodes more address =
+    ap (map (opening_of lines)) (filter-append (λ (node : Named). same_host node.address address) nodes more)
+    ∙ map-append (opening_of lines) (filter (λ (node : Named). same_host node.address address) nodes) (filter (λ (node : Named). same_host node.address address) more)
 
--- one more node is told where it is at the host and port
-pub openings_more : (lines : List Line) (nodes : List Named) (node : Named) (address : Address) (b : Bool) → same_host node.address address ≡ b → openings_at lines (nodes ++ node ∷ []) address ≡ openings_at lines nodes address ++ map (opening_of lines) (cond b (node ∷ []) [])
-openings_more lines nodes node address b e =
-    ap (map (opening_of lines)) (filter-append (λ (node : Named). same_host node.address address) nodes (node ∷ []) ∙ ap (λ (ns : List Named). filter (λ (node : Named). same_host node.address address) nodes ++ ns) (filter_one (λ (node : Named). same_host node.address address) node b e))
-    ∙ map-append (opening_of lines) (filter (λ (node : Named). same_host node.address address) nodes) (cond b (node ∷ []) [])
+-- a node is told where it is at the host and port
+pub one_opening : (lines : List Line) (node : Named) (address : Address) (b : Bool) → same_host node.address address ≡ b → openings_at lines (node ∷ []) address ≡ cond b (opening_of lines node ∷ []) []
+one_opening lines node address true e = ap (λ (b : Bool). map (opening_of lines) (cond b (node ∷ []) [])) e
+one_opening lines node address false e = ap (λ (b : Bool). map (opening_of lines) (cond b (node ∷ []) [])) e
 
 -- ---- all of it
 

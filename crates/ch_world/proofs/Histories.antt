@@ -135,3 +135,14 @@ settles_nothing what e = by_test (is_declaration what) (is_settle what) e
 pub stops_so : (line : Line) (told : Told) (stop : Stop) → Stops stop (world_step told.state line) → Stops stop (told_step line told)
 stops_so line told stops.OutOfMemory s = tt
 stops_so line told stops.Worn s = ap (with_line line told) s
+
+-- one more event line, and its entries behind the others: the log stays that of the journal
+pub stays_so : (lines more : List Line) (line : Line) (log all entries : List Entry) (state next : World) → is_event line.what ≡ true → log_from (world_new lines) lines ≡ Ok (log, state) → world_step state line ≡ Ok (entries, next) → more ≡ lines ++ line ∷ [] → all ≡ log ++ entries → log_from (world_new more) more ≡ Ok (all, next)
+stays_so lines more line log all entries state next v e s m a =
+    ap (λ (ls : List Line). log_from (world_new ls) ls) m ∙ grown lines line state next log entries (declares_nothing line.what v) e s ∙ ap (λ (es : List Entry). Ok (es, next)) (sym a)
+
+-- and that is what is told of the line
+pub told_so : (lines more : List Line) (line : Line) (log all entries : List Entry) (state next : World) (told : Told) (before now : Bool) (count : ℕ) → record { journal = lines; log = log; state = state; failed = before } ≡ told → before ≡ now → world_step state line ≡ Ok (entries, next) → more ≡ lines ++ line ∷ [] → all ≡ log ++ entries → count ≡ length entries → told_step line told ≡ Ok (count, record { journal = more; log = all; state = next; failed = now })
+told_so lines more line log all entries state next told before now count t f s m a n =
+    ap (told_step line) (sym t) ∙ ap (with_line line (record { journal = lines; log = log; state = state; failed = before })) s
+    ∙ (λ i. Ok (sym n i, record { journal = sym m i; log = sym a i; state = next; failed = f i }))

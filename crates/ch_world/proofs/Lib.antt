@@ -3,3 +3,4 @@ pub mod Found
 pub mod Histories
 pub mod Told
 pub mod Declares
+pub mod Addresses

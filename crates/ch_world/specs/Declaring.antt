@@ -1,10 +1,15 @@
 -- The hosts that a journal declares, as they are made of its nodes.
-use Rattle.std.specs.Prelude.{ℕ, List, map, filter}
+use Rattle.std.specs.Prelude.{ℕ, List, [], ◌∷◌, ◌++◌, map, filter, if◌then◌else◌}
+use Rattle.std.specs.List.{list_any}
 use Rattle.ch_base.specs.declared.address.Address.{Address}
 use Rattle.ch_model.specs.declared.line.Line.{Line}
 use Rattle.ch_model.specs.WorldState.{Cell, Named}
 use Rattle.ch_model.specs.Cell.{cell_new}
 use Rattle.ch_model.specs.World.{labels_of, same_host}
+
+-- an address comes after the others, where none of them is at its host and port
+abbrev pub first_added : List Address → Address → List Address
+first_added found address = if list_any (same_host address) found then found else found ++ address ∷ []
 
 -- a node as its host takes it: the number of its endpoint, its unique number, and its labels
 abbrev pub opening_of : List Line → Named → ℕ × ℕ × List (List ℕ)

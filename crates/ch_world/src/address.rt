@@ -27,6 +27,7 @@ fn address_text(
 }
 
 /// Whether an address is of this host text and port, and has this number.
+#[tactic(auto, unfolding(ch_watch::specs::Same::same_node))]
 fn is_of(address: &Address, host: &Text, port: u16, id: u32) -> bool
     ensures { result ≡ same_node address.now (record { host = host.now; port = port; id = id }) }
 {
@@ -35,6 +36,7 @@ fn is_of(address: &Address, host: &Text, port: u16, id: u32) -> bool
 
 /// The address of an endpoint of a host. A host that has none of that number, since its text would be too long, is
 /// answered as one for whose address there is no memory.
+#[tactic(auto, using(crate::proofs::Addresses::node_alike))]
 pub(crate) fn own_address(at: &HostAt, end: u32) -> Result<Address, OutOfMemory>
     ensures { IfOk result (λ own. own ≡ own_address_of (cell_in at.now).host end) }
 {

@@ -5,7 +5,7 @@ ghost use Rattle.std.specs.List.{flat_map, list_any};
 ghost use Rattle.std.specs.Str.{bytes_eq};
 ghost use Rattle.ch_cell.specs.New.{AreOf, named};
 ghost use Rattle.ch_model.specs.World.{name_in, stranger_in, label_in, names_of, labels_of, nodes_of, same_host as same_host_of, first_of_hosts, world_new};
-ghost use Rattle.ch_world.specs.Declaring.{opening_of, openings_at, cell_among, cells_among};
+ghost use Rattle.ch_world.specs.Declaring.{first_added, opening_of, openings_at, cell_among, cells_among};
 
 use crate::hosted::Hosted;
 use crate::realm::{Realm, Stranger};
@@ -184,15 +184,25 @@ fn has_host(known: &[Address], address: &Address) -> bool
     known.iter().any(|own| same_host(address, own))
 }
 
+/// An address comes after the others, where none of them is at its host and port.
+fn add_first(firsts: &mut Vec<Address>, address: &Address) -> Result<(), OutOfMemory>
+    ensures { OnOk result (firsts.new.items ≡ first_added firsts.old.items address.now) }
+{
+    if has_host(firsts.as_slice(), address) {
+        return Ok(());
+    }
+    firsts.push(address.copy()?)?;
+    Ok(())
+}
+
 /// One address of each host and port, that which is declared first, in order.
+#[tactic(auto, using(crate::proofs::Declares::firsts_are))]
 fn firsts(alloc: Global, nodes: &[Node]) -> Result<Vec<Address>, OutOfMemory>
     ensures { IfOk result (λ firsts. firsts.items ≡ first_of_hosts [] nodes.now) }
 {
     let mut firsts = Vec::new(alloc);
     for node in nodes {
-        if !has_host(firsts.as_slice(), &node.address) {
-            firsts.push(node.address.copy()?)?;
-        }
+        add_first(&mut firsts, &node.address)?;
     }
     Ok(firsts)
 }
@@ -209,7 +219,27 @@ fn opening(alloc: Global, lines: &[Line], node: &Node) -> Result<Opening, OutOfM
     })
 }
 
+/// A node comes after the others, where it is at the host and port of an address.
+#[tactic(auto, using(crate::proofs::Declares::one_more_of, crate::proofs::Declares::host_alike, crate::proofs::Declares::port_alike, crate::proofs::Declares::one_opening))]
+fn add_opening(
+    openings: &mut Vec<Opening>,
+    lines: &[Line],
+    node: &Node,
+    address: &Address,
+) -> Result<(), OutOfMemory>
+    ensures own { OnOk result (AreOf address.now.host address.now.port openings.old.items → AreOf address.now.host address.now.port openings.new.items) }
+    ensures told { OnOk result (map named openings.new.items ≡ map named openings.old.items ++ openings_at lines.now (node.now ∷ []) address.now) }
+{
+    if same_host(&node.address, address) {
+        openings.push(opening(*openings.allocator(), lines, node)?)?;
+        Ok(())
+    } else {
+        Ok(())
+    }
+}
+
 /// Those nodes that are at the host and port of an address.
+#[tactic(auto, using(crate::proofs::Declares::openings_more))]
 fn openings(
     alloc: Global,
     lines: &[Line],
@@ -221,9 +251,7 @@ fn openings(
 {
     let mut openings = Vec::new(alloc);
     for node in nodes {
-        if same_host(&node.address, address) {
-            openings.push(opening(alloc, lines, node)?)?;
-        }
+        add_opening(&mut openings, lines, node, address)?;
     }
     Ok(openings)
 }

@@ -1,8 +1,9 @@
 //! The hosts of a world, each with its nodes.
 
-ghost use Rattle.std.specs.Prelude.{◌≡◌, ◌<◌, length, position, IfOk, IfSome};
+ghost use Rattle.std.specs.Prelude.{◌≡◌, ◌<◌, length, position, slice_get, IfOk, IfSome};
+ghost use Rattle.ch_model.specs.HostCalls.{host_timer_runs};
 ghost use Rattle.ch_model.specs.WorldSockets.{is_host_of as is_host_of_address};
-ghost use Rattle.ch_world.specs.Hosts.{host_at};
+ghost use Rattle.ch_world.specs.Hosts.{host_at, timer_of};
 
 use ch_base::{Address, OutOfMemory, Text};
 use ch_cell::Site;
@@ -44,6 +45,13 @@ impl Hosted {
         })
     }
 
+    /// Whether the timer of an endpoint's link with a peer runs.
+    fn timer_runs(&self, end: u32, peer: &Address) -> bool
+        ensures { result ≡ host_timer_runs self.now.0.host end peer.now }
+    {
+        self.site.timer_runs(end, peer)
+    }
+
     /// Whether an address is at this host and port.
     fn has(&self, address: &Address) -> bool
         ensures { result ≡ is_host_of_address address.now self.now }
@@ -58,4 +66,14 @@ pub(crate) fn place_of(cells: &[Hosted], address: &Address) -> Option<usize>
     ensures within { IfSome result (λ place. place < length cells.now) }
 {
     cells.iter().position(|cell| cell.has(address))
+}
+
+/// Whether the timer of an endpoint's link with a peer runs, at the host at a place.
+pub(crate) fn timer_among(cells: &[Hosted], place: usize, end: u32, peer: &Address) -> bool
+    ensures { result ≡ timer_of end peer.now (slice_get cells.now place) }
+{
+    match cells.get(place) {
+        None => false,
+        Some(cell) => cell.timer_runs(end, peer),
+    }
 }

@@ -1,6 +1,6 @@
 //! A world without its history, and what is read and changed in it.
 
-ghost use Rattle.std.specs.Prelude.{◌≡◌, ◌<◌, [], length, position, find, Some, None, IfOk, IfSome, OnOk};
+ghost use Rattle.std.specs.Prelude.{◌≡◌, ◌<◌, [], length, position, find, slice_get, Some, None, IfOk, IfSome, OnOk};
 ghost use Rattle.std.specs.Option.{option_map, option_copied};
 ghost use Rattle.std.specs.Str.{bytes_eq};
 ghost use Rattle.ch_model.specs.declared.name.End.TheVariants.{O, T};
@@ -15,12 +15,13 @@ ghost use Rattle.ch_sockets.specs.Among.{come_under, passed, taken_among};
 ghost use Rattle.ch_sockets.specs.Handing.{handed_among};
 ghost use Rattle.ch_sockets.specs.Openers.{opener_end};
 ghost use Rattle.ch_world.specs.Held.{read_where, held_of, coming_of};
+ghost use Rattle.ch_world.specs.Hosts.{timer_of};
 
 use crate::held::{
     Coming, Held, can_come, can_cut, can_feed, can_join, can_refuse, coming_socket, held_end, is_at_work,
     is_strangers,
 };
-use crate::hosted::{Hosted, place_of};
+use crate::hosted::{Hosted, place_of, timer_among};
 use ch_base::{Address, OutOfMemory, Text};
 use ch_model::{End, Handed, Place, SockName, What};
 use ch_names::{Asked, Names};
@@ -133,14 +134,21 @@ impl Realm {
     pub(crate) fn timer_runs_for(&self, node: &Text, peer: &Text) -> Result<bool, OutOfMemory>
         ensures { IfOk result (λ runs. runs ≡ timer_runs_for_of self.now node.now peer.now) }
     {
-        let own = self.names.address_as(node)?;
-        match place_of(self.cells.as_slice(), &own) {
+        let own = self.address_as(node)?;
+        match self.cell_of(&own) {
             None => Ok(false),
             Some(place) => {
-                let address = self.names.address_as(peer)?;
-                Ok(self.cells[place].site.timer_runs(own.id, &address))
+                let address = self.address_as(peer)?;
+                Ok(self.timer_at(place, own.id, &address))
             }
         }
+    }
+
+    /// Whether the timer of an endpoint's link with a peer runs, at the host at a place.
+    fn timer_at(&self, place: usize, end: u32, peer: &Address) -> bool
+        ensures { result ≡ timer_of end peer.now (slice_get self.now.cells place) }
+    {
+        timer_among(self.cells.as_slice(), place, end, peer)
     }
 
     // ---- sockets that stand as a line asks

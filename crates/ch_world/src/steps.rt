@@ -3,7 +3,7 @@
 ghost use Rattle.std.specs.Prelude.{◌≡◌, ◌++◌, ◌∷◌, [], IfOk};
 ghost use Rattle.ch_model.specs.HostSteps.{own_address as own_address_of};
 ghost use Rattle.ch_model.specs.WorldSockets.{other as other_of};
-ghost use Rattle.ch_model.specs.WorldSteps.{noted, stepped as stepped_of, local_told, all_told};
+ghost use Rattle.ch_model.specs.WorldSteps.{note_entry as note_entry_of, place_after as place_after_of, noted, stepped as stepped_of, local_told, all_told};
 ghost use Rattle.ch_model.specs.declared.step.Step.TheVariants as steps;
 ghost use Rattle.ch_world.specs.Hosts.{cell_in};
 
@@ -27,14 +27,27 @@ fn other(end: End) -> End
 }
 
 impl Realm {
+    /// The entry of a note.
+    fn note_entry(&self, note: &Note) -> Result<Entry, OutOfMemory>
+        ensures { IfOk result (λ entry. entry ≡ note_entry_of self.now.names self.now.last note.now) }
+    {
+        self.names.note_entry(self.last, note)
+    }
+
+    /// The place of the message that was last said or read, after a note.
+    fn pass(&mut self, note: &Note)
+        ensures { self.new ≡ record self.old { last = place_after_of self.old.last note.now } }
+    {
+        self.last = place_after(self.last, note);
+    }
+
     /// A note is told.
     fn note(&mut self, note: &Note) -> Result<Vec<Entry>, OutOfMemory>
         ensures { IfOk result (λ entries. noted note.now self.old ≡ (entries.items, self.new)) }
     {
-        let entry = self.names.note_entry(self.last, note)?;
-        let entries = one(self.alloc(), entry)?;
-        self.last = place_after(self.last, note);
-        Ok(entries)
+        let entry = self.note_entry(note)?;
+        self.pass(note);
+        one(self.alloc(), entry)
     }
 
     /// A socket is dialed: both ends are pending, or the target's is over from the start.
