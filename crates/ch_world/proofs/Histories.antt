@@ -74,8 +74,11 @@ abbrev world_with : List Named → List (List ℕ × List ℕ) → (List ℕ →
 world_with names strangers labels = record {
   names = names;
   strangers = strangers;
-  cells = map (λ address. (cell_new address.host address.port (map (λ named. named.address.host) (filter (λ named. named.is_node) names))
-    (map (λ named. (named.address.id, named.unique, labels named.name)) (filter (λ named. same_host named.address address) (filter (λ named. named.is_node) names))), 0)) (first_of_hosts [] (filter (λ named. named.is_node) names));
+  cells = map (λ address. (
+    cell_new address.host address.port (map (λ named. named.address.host) (filter (λ named. named.is_node) names))
+        (map (λ named. (named.address.id, named.unique, labels named.name)) (filter (λ named. same_host named.address address) (filter (λ named. named.is_node) names))),
+    0,
+  )) (first_of_hosts [] (filter (λ named. named.is_node) names));
   sockets = [];
   last = None;
 }

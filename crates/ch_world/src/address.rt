@@ -11,12 +11,7 @@ use itoa::Buffer;
 use std::alloc::Global;
 
 /// The text `host:port:id`.
-fn address_text(
-    alloc: Global,
-    host: &[u8],
-    port: u16,
-    id: u32,
-) -> Result<Vec<u8>, OutOfMemory> {
+fn address_text(alloc: Global, host: &[u8], port: u16, id: u32) -> Result<Vec<u8>, OutOfMemory> {
     let mut digits = Buffer::new();
     let mut text = Vec::from_slice(alloc, host)?;
     text.push(b':')?;

@@ -23,7 +23,7 @@ impl Realm {
     pub(crate) fn cell_hears(&mut self, place: usize, event: LocalEvent) -> Result<Answer, Stop>
         ensures { MatchResult result (λ answer. cell_hears_of place event self.old ≡ Ok (answer, self.new)) (λ e. Stops e (cell_hears_of place event self.old)) }
     {
-        if place >= self.cells.len() {
+        if place >= self.count() {
             return Ok(nothing(self.alloc()));
         }
         let made = self.cells[place].site.step(event)?;

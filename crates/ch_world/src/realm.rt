@@ -18,8 +18,8 @@ ghost use Rattle.ch_world.specs.Held.{read_where, held_of, coming_of};
 ghost use Rattle.ch_world.specs.Hosts.{timer_of};
 
 use crate::held::{
-    Coming, Held, can_come, can_cut, can_feed, can_join, can_refuse, coming_socket, held_end, is_at_work,
-    is_strangers,
+    Coming, Held, can_come, can_cut, can_feed, can_join, can_refuse, coming_socket, held_end,
+    is_at_work, is_strangers,
 };
 use crate::hosted::{Hosted, place_of, timer_among};
 use ch_base::{Address, OutOfMemory, Text};
@@ -89,6 +89,13 @@ impl Realm {
         ensures { IfOk result (λ handed. handed ≡ handed_among sock.now end self.now.sockets) }
     {
         self.sockets.unread(sock, end)
+    }
+
+    /// How many hosts there are.
+    pub(crate) fn count(&self) -> usize
+        ensures { result ≡ length self.now.cells }
+    {
+        self.cells.len()
     }
 
     /// The place of the host that an address is at.
@@ -184,11 +191,7 @@ impl Realm {
     }
 
     /// An end of a socket that something can be handed to.
-    pub(crate) fn feedable(
-        &self,
-        name: &SockName,
-        which: End,
-    ) -> Result<Option<Held>, OutOfMemory>
+    pub(crate) fn feedable(&self, name: &SockName, which: End) -> Result<Option<Held>, OutOfMemory>
         ensures { IfOk result (λ found. found ≡ read_where (can_feed_of which) (held_of which) (find (is_socket_named name.now) self.now.sockets)) }
     {
         match self.sockets.get(name) {
@@ -198,11 +201,7 @@ impl Realm {
     }
 
     /// An end of a socket that can be cut.
-    pub(crate) fn severable(
-        &self,
-        name: &SockName,
-        which: End,
-    ) -> Result<Option<Held>, OutOfMemory>
+    pub(crate) fn severable(&self, name: &SockName, which: End) -> Result<Option<Held>, OutOfMemory>
         ensures { IfOk result (λ found. found ≡ read_where (can_cut_of which) (held_of which) (find (is_socket_named name.now) self.now.sockets)) }
     {
         match self.sockets.get(name) {
