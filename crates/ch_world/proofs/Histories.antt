@@ -20,9 +20,13 @@ use Rattle.ch_world.specs.Histories.{Told, all_declare, is_event, with_line, tol
 
 -- ---- one more line
 
+-- entries before those of what follows
+abbrev with_told : List Entry → List Entry × World → Happened
+with_told before more = Ok (before ++ more.0, more.1)
+
 -- what is told after a line, with its entries
 abbrev with_rest : List Line → List Entry × World → Happened
-with_rest rest done = log_from done.1 rest >>= (λ more. Ok (done.0 ++ more.0, more.1))
+with_rest rest done = log_from done.1 rest >>= with_told done.0
 
 first_line : (line : Line) (world state next : World) (log entries : List Entry) → ◌≡◌ {A = List Entry × World} ([], world) (log, state) → world_step state line ≡ Ok (entries, next) → log_from world (line ∷ []) ≡ Ok (log ++ entries, next)
 first_line line world state next log entries e s =
@@ -35,19 +39,19 @@ later_line : (rest : List Line) (line : Line) (state next : World) (log entries 
 later_line rest line state next log entries (Err stop) ih e s = absurd cc
 later_line rest line state next log entries (Ok done) ih e s = by_rest (log_from done.1 rest) refl e
   where
-    by_rest : (more : Happened) → log_from done.1 rest ≡ more → (more >>= (λ (more : List Entry × World). Ok (done.0 ++ more.0, more.1))) ≡ Ok (log, state) → with_rest (rest ++ line ∷ []) done ≡ Ok (log ++ entries, next)
+    by_rest : (more : Happened) → log_from done.1 rest ≡ more → (more >>= with_told done.0) ≡ Ok (log, state) → with_rest (rest ++ line ∷ []) done ≡ Ok (log ++ entries, next)
     by_rest (Err stop) h e = absurd cc
     by_rest (Ok more) h e =
         let p : ◌≡◌ {A = List Entry × World} (done.0 ++ more.0, more.1) (log, state) = cc in
         let here : world_step more.1 line ≡ Ok (entries, next) = ap (λ (p : List Entry × World). world_step p.1 line) p ∙ s in
         let told : log_from done.1 (rest ++ line ∷ []) ≡ Ok (more.0 ++ entries, next) = ih done.1 more.1 more.0 h here in
-        ap (λ (r : Happened). r >>= (λ (more : List Entry × World). Ok (done.0 ++ more.0, more.1))) told
+        ap (λ (r : Happened). r >>= with_told done.0) told
         ∙ ap (λ (es : List Entry). Ok (es, next)) (sym (append_assoc done.0 more.0 entries))
         ∙ ap (λ (p : List Entry × World). Ok (p.0 ++ entries, next)) p
 
 -- the entries of a line come behind those before it
 pub one_more : (lines : List Line) (line : Line) (world state next : World) (log entries : List Entry) → log_from world lines ≡ Ok (log, state) → world_step state line ≡ Ok (entries, next) → log_from world (lines ++ line ∷ []) ≡ Ok (log ++ entries, next)
-one_more [] line world state next log entries e s = first_line line world state next log entries cc s
+one_more [] line world state next log entries e s = first_line line world state next log entries (cc) s
 one_more (first ∷ rest) line world state next log entries e s = later_line rest line state next log entries (world_step world first) (λ world before told. one_more rest line world before next told entries) e s
 
 -- ---- an event declares nothing
@@ -103,7 +107,7 @@ grown lines line state next log entries d e s = ap (λ (world : World). log_from
 -- ---- declarations
 
 declared_first : (line : Line) (rest : List Line) (world : World) (b : Bool) (done : Happened) → (list_all (λ (line : Line). is_declaration line.what) rest ≡ true → log_from world rest ≡ Ok ([], world)) → (b && list_all (λ (line : Line). is_declaration line.what) rest) ≡ true → (cond {A = Happened} b (Ok ([], world)) done >>= with_rest rest) ≡ Ok ([], world)
-declared_first line rest world true done ih e = ap (λ (r : Happened). r >>= (λ (more : List Entry × World). Ok ([] ++ more.0, more.1))) (ih e)
+declared_first line rest world true done ih e = ap (λ (r : Happened). r >>= with_told []) (ih e)
 declared_first line rest world false done ih e = absurd cc
 
 -- declarations do nothing
@@ -149,3 +153,7 @@ pub told_so : (lines more : List Line) (line : Line) (log all entries : List Ent
 told_so lines more line log all entries state next told before now count t f s m a n =
     ap (told_step line) (sym t) ∙ ap (with_line line (record { journal = lines; log = log; state = state; failed = before })) s
     ∙ (λ i. Ok (sym n i, record { journal = sym m i; log = sym a i; state = next; failed = f i }))
+
+-- what declarations begin
+pub begun : (lines declared : List Line) (log : List Entry) (state : World) → lines ≡ declared → log ≡ [] → state ≡ world_new declared → all_declare declared ≡ true → log_from (world_new lines) lines ≡ Ok (log, state)
+begun lines declared log state l g s d = ap (λ (ls : List Line). log_from (world_new ls) ls) l ∙ only_declared declared (world_new declared) d ∙ (λ i. Ok (sym g i, sym s i))
