@@ -2,6 +2,7 @@
 use Rattle.std.proofs.Common.{◌≡◌, ◌<◌, ℕ, ◌+◌, ◌==◌, Bool, false, cond, List, [], ◌∷◌, ◌++◌, Option, Some, None, Result, Ok, Err, refl, sym, ◌∙◌, ap, subst, arith}
 use Rattle.std.proofs.lemmas.Bool.Decides.{nat_tests}
 use Rattle.ch_base.specs.declared.memory.Stop.{Stop}
+use Rattle.ch_base.specs.declared.memory.Stop.TheVariants as stops
 use Rattle.ch_model.specs.declared.entry.Entry.{Entry}
 use Rattle.ch_model.specs.declared.line.Line.{Line}
 use Rattle.ch_model.specs.declared.line.What.{What}
@@ -23,7 +24,7 @@ use Rattle.ch_laws_lines.proofs.ManyNodes.{many_settles_not}
 use Rattle.ch_world.specs.Lines.{is_settle}
 use Rattle.ch_replay.specs.Running.{Running}
 use Rattle.ch_replay.specs.Steps.{run_step}
-use Rattle.ch_replay.specs.Replayed.{Progress, went_on, one_line, progress_of, IsTurn}
+use Rattle.ch_replay.specs.Replayed.{Progress, went_on, one_line, progress_of, Runs, IsTurn}
 
 not_last : (n : ℕ) → n < 4294967295 → (n == 4294967295) ≡ false
 not_last n h = grind (arith, nat_tests)
@@ -65,6 +66,40 @@ goes_on before now run after line read entries old new own fresh few answer then
     by_read : (r : Result (Option What × Told) BadKind) → read_line many_nodes before.told line ≡ r → (read_as before (before.number + 1) r).answer ≡ Ok (Some read) → now ≡ (read_as before (before.number + 1) r).after → IsTurn (Ok None) before now run after line old new
     by_read (Err kind) e a n = absurd cc
     by_read (Ok r) e a n = let found : Some (numbered_line (before.number + 1) r.0) ≡ Some (Some read) = cc in by_some r.0 r.1 e found n
+
+-- where a count is worn by a line that was read, the model's line stops
+worn_on : (before now : ReadingState) (run : Running) (line : List ℕ) (read : Line)
+    → before.grammar ≡ ManyNodes → before.refused ≡ None → before.number < 4294967295
+    → (read_on before line).answer ≡ Ok (Some read) → run_step run read ≡ Err stops.Worn
+    → one_line (progress_of before run) line ≡ Err stops.Worn
+worn_on before now run line read own fresh few answer worn =
+    by_read (read_line many_nodes before.told line) refl (ap (λ (s : Step). s.answer) (sym (reads_next before line own fresh few)) ∙ answer)
+  where
+    by_some : (o : Option What) (told : Told) → read_line many_nodes before.told line ≡ Ok (o, told) → Some (numbered_line (before.number + 1) o) ≡ Some (Some read) → one_line (progress_of before run) line ≡ Err stops.Worn
+    by_some None told e a = absurd cc
+    by_some (Some what) told e a =
+        let same : record { number = before.number + 1; what = what } ≡ read = cc in
+        let ran : run_step run (record { number = before.number + 1; what = what }) ≡ Err stops.Worn = ap (run_step run) same ∙ worn in
+        let line_is : one_line (progress_of before run) line ≡ (went_on (progress_of before run) (Some what) told >>= λ done. Ok (Ok done)) = ap (λ (r : Result (Option What × Told) BadKind). elim r as (λ r. Result (Result (List ℕ × Progress) BadKind) Stop) [
+          | Err kind ↦ Ok (Err kind)
+          | Ok read ↦ (went_on (progress_of before run) read.0 read.1 >>= λ done. Ok (Ok done))
+        ]) e in
+        let went_is : went_on (progress_of before run) (Some what) told ≡ Err stops.Worn = ap (λ (d : Result (List Entry × Running) Stop). d >>= λ done. Ok (log_text done.0, record { told = told; number = before.number + 1; run = done.1 })) ran in
+        line_is ∙ ap (λ (d : Result (List ℕ × Progress) Stop). d >>= λ done. Ok (Ok done)) went_is
+
+    by_read : (r : Result (Option What × Told) BadKind) → read_line many_nodes before.told line ≡ r → (read_as before (before.number + 1) r).answer ≡ Ok (Some read) → one_line (progress_of before run) line ≡ Err stops.Worn
+    by_read (Err kind) e a = absurd cc
+    by_read (Ok r) e a = let found : Some (numbered_line (before.number + 1) r.0) ≡ Some (Some read) = cc in by_some r.0 r.1 e found
+
+-- a line that was read, whatever came of it
+pub turns : (result : Result (Option BadKind) Stop) (before now : ReadingState) (run after : Running) (line : List ℕ) (read : Line) (old new : List ℕ)
+    → before.grammar ≡ ManyNodes → before.refused ≡ None → before.number < 4294967295
+    → (read_on before line).answer ≡ Ok (Some read) → now ≡ (read_on before line).after
+    → Runs result run after read old new → IsTurn result before now run after line old new
+turns (Ok None) before now run after line read old new own fresh few answer then runs = goes_on before now run after line read runs.0 old new own fresh few answer then runs.1 runs.2
+turns (Ok (Some kind)) before now run after line read old new own fresh few answer then runs = absurd runs
+turns (Err stops.OutOfMemory) before now run after line read old new own fresh few answer then runs = tt
+turns (Err stops.Worn) before now run after line read old new own fresh few answer then runs = worn_on before now run line read own fresh few answer runs
 
 -- a line that is read settles nothing
 pub settles_not : (before : ReadingState) (line : List ℕ) (read : Line)

@@ -7,6 +7,8 @@ use Rattle.ch_model.specs.declared.refusal.BadKind.{BadKind}
 use Rattle.ch_model.specs.declared.refusal.BadKind.TheVariants.{Form}
 use Rattle.ch_model.specs.declared.refusal.LineFault.{LineFault}
 use Rattle.ch_model.specs.declared.refusal.LineFault.TheVariants.{Bad, TooLong}
+use Rattle.ch_model.specs.declared.entry.Entry.{Entry}
+use Rattle.ch_model.specs.declared.line.Line.{Line}
 use Rattle.ch_model.specs.declared.line.What.{What}
 use Rattle.ch_model.specs.World.{◌>>=◌}
 use Rattle.ch_model.specs.LinesTold.{Told, untold}
@@ -72,6 +74,13 @@ Gives view (Err e) given = Stops e given
 
 abbrev pub progress_of : ReadingState → Running → Progress
 progress_of reading run = record { told = reading.told; number = reading.number; run = run }
+
+-- What was done of a line that was read: its entries were appended as text; or a count is worn.
+abbrev pub Runs : Result (Option BadKind) Stop → Running → Running → Line → List ℕ → List ℕ → Type 0
+Runs (Ok None) run after line old new = (entries : List Entry) × (run_step run line ≡ Ok (entries, after)) × (new ≡ old ++ log_text entries)
+Runs (Ok (Some kind)) run after line old new = ⊥
+Runs (Err stops.OutOfMemory) run after line old new = Unit {0}
+Runs (Err stops.Worn) run after line old new = run_step run line ≡ Err stops.Worn
 
 -- What a turn did: a line went on, with its text appended; or was refused, and nothing was; or a count is worn.
 abbrev pub IsTurn : Result (Option BadKind) Stop → ReadingState → ReadingState → Running → Running → List ℕ → List ℕ → List ℕ → Type 0

@@ -92,7 +92,7 @@ impl Running {
 
     /// What a line does: a declaration is kept, and an event line is a step of the world. After a stop
     /// nothing is known of the run.
-    fn read(&mut self, alloc: Global, line: &Line) -> Result<Vec<Entry>, Stop>
+    pub(crate) fn step(&mut self, alloc: Global, line: &Line) -> Result<Vec<Entry>, Stop>
         requires { is_settle line.now.what ≡ false }
         ensures { MatchResult result (λ entries. run_step self.old line.now ≡ Ok (entries.items, self.new)) (λ e. Stops e (run_step self.old line.now)) }
     {
@@ -101,13 +101,5 @@ impl Running {
         } else {
             self.event(alloc, line)
         }
-    }
-
-    /// The same of a line that is let go after it.
-    pub(crate) fn step(&mut self, alloc: Global, line: Line) -> Result<Vec<Entry>, Stop>
-        requires { is_settle line.what ≡ false }
-        ensures { MatchResult result (λ entries. run_step self.old line ≡ Ok (entries.items, self.new)) (λ e. Stops e (run_step self.old line)) }
-    {
-        self.read(alloc, &line)
     }
 }
