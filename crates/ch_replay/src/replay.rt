@@ -5,7 +5,7 @@ ghost use Rattle.ch_model.specs.Journal.{raw_lines, size_of};
 ghost use Rattle.ch_model.specs.Spelling.{log_text};
 ghost use Rattle.ch_lines.specs.declared.grammar.Grammar.TheVariants.{ManyNodes};
 ghost use Rattle.ch_lines.specs.ReadingState.{unread};
-ghost use Rattle.ch_replay.specs.Replayed.{Gives, replay_of, progress_of, Runs, IsTurn};
+ghost use Rattle.ch_replay.specs.Replayed.{Gives, replay_of, progress_of, Runs, RunsRead, NoneSettles, IsTurn};
 ghost use Rattle.ch_replay.specs.Running.{unbegun};
 ghost use Rattle.ch_world.specs.Lines.{is_settle};
 
@@ -67,6 +67,25 @@ fn run_line(
     }
 }
 
+/// Runs the line that was read, where one was, or tells why it is refused.
+fn run_read(
+    alloc: Global,
+    run: &mut Running,
+    read: &Result<Option<Line>, JournalError>,
+    text: &mut Vec<u8>,
+) -> Result<Option<BadKind>, Stop>
+    requires { NoneSettles read.now }
+    ensures { RunsRead result read.now run.old run.new text.old.items text.new.items }
+{
+    match read {
+        Ok(None) => Ok(None),
+        Ok(Some(line)) => run_line(alloc, run, line, text),
+        Err(JournalError::BadLine { kind, .. }) => Ok(Some(*kind)),
+        Err(JournalError::OutOfMemory) => Err(Stop::OutOfMemory),
+        Err(JournalError::Worn) => Err(Stop::Worn),
+    }
+}
+
 /// Reads the next line and runs it, or tells why it is refused.
 fn turn(
     alloc: Global,
@@ -80,13 +99,8 @@ fn turn(
     requires few { reading.old.number < 4294967295 }
     ensures { IsTurn result reading.old reading.new run.old run.new line.now text.old.items text.new.items }
 {
-    match reading.line(line) {
-        Ok(None) => Ok(None),
-        Ok(Some(line)) => run_line(alloc, run, &line, text),
-        Err(JournalError::BadLine { kind, .. }) => Ok(Some(kind)),
-        Err(JournalError::OutOfMemory) => Err(Stop::OutOfMemory),
-        Err(JournalError::Worn) => Err(Stop::Worn),
-    }
+    let read = reading.line(line);
+    run_read(alloc, run, &read, text)
 }
 
 /// The log of a journal's text, read by a new reading and run from nothing. Both are lent, so that the walk over
