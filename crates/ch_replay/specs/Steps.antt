@@ -34,5 +34,5 @@ event_on run line = elim run.world [
 ]
 
 -- a line
-abbrev pub run_step : Running → Line → Result (List Entry × Running) Stop
+unfoldable pub run_step : Running → Line → Result (List Entry × Running) Stop
 run_step run line = if is_declaration line.what then declaration_on run line else event_on (begun run) line

@@ -92,6 +92,7 @@ impl Running {
 
     /// What a line does: a declaration is kept, and an event line is a step of the world. After a stop
     /// nothing is known of the run.
+    #[tactic(auto, unfolding(crate::specs::Steps::run_step))]
     pub(crate) fn step(&mut self, alloc: Global, line: &Line) -> Result<Vec<Entry>, Stop>
         requires { is_settle line.now.what ≡ false }
         ensures { MatchResult result (λ entries. run_step self.old line.now ≡ Ok (entries.items, self.new)) (λ e. Stops e (run_step self.old line.now)) }
