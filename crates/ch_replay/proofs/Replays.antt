@@ -23,7 +23,7 @@ use Rattle.ch_laws_lines.proofs.ManyNodes.{many_early}
 use Rattle.ch_laws_lines.proofs.Worlds.{of_declarations}
 use Rattle.ch_laws_one_node.proofs.Reading.{Gives}
 use Rattle.ch_replay.specs.Running.{Running}
-use Rattle.ch_replay.specs.Steps.{with_declared}
+use Rattle.ch_replay.specs.Steps.{with_declared, run_step}
 use Rattle.ch_replay.specs.Replayed.{Progress, went_on, after_text, replayed, replay_of}
 
 -- ---- what is told
@@ -75,6 +75,14 @@ abbrev step_by : Bool → List Line → Option World → Line → World → Resu
 step_by b declared before line world event =
     if b then Ok ([], with_declared line (record { declared = declared; world = before }))
     else ((if b then Ok ([], world) else event) >>= λ done. Ok (done.0, record { declared = declared; world = Some done.1 }))
+
+run_begun : (declared : List Line) (world : World) (line : Line) → run_step (record { declared = declared; world = Some world }) line ≡ step_by (is_declaration line.what) declared (Some world) line world (event_step line.number line.what world)
+unfolding run_step
+run_begun declared world line = refl
+
+run_unbegun : (declared : List Line) (line : Line) → run_step (record { declared = declared; world = None }) line ≡ step_by (is_declaration line.what) declared None line (world_new declared) (event_step line.number line.what (world_new declared))
+unfolding run_step
+run_unbegun declared line = refl
 
 -- the lines after this one, of this number, on a text with this room
 abbrev replay_after : ℕ → ℕ → List (List ℕ × Bool) → Result (List ℕ × Progress) BadKind → Result Told2 Stop
@@ -128,7 +136,7 @@ replays_begun told number declared world room (line ∷ rest) = by_long (is_too_
   by_long true r more = refl
   by_long false (Err kind) more = refl
   by_long false (Ok (None, after)) more = no_text (replayed (at after next declared (Some world)) (room - size_of line) rest) ∙ more after declared world
-  by_long false (Ok (Some what, after)) more = by_kind after (record { number = next; what = what }) (is_declaration what) (event_step next what world) more
+  by_long false (Ok (Some what, after)) more = ap (λ (r : Result (List Entry × Running) Stop). went after next r >>= replay_after next (room - size_of line) rest) (run_begun declared world (record { number = next; what = what })) ∙ by_kind after (record { number = next; what = what }) (is_declaration what) (event_step next what world) more
 
 -- ---- a run that has none yet: the world is that of the whole journal, whose declarations are those before it
 
@@ -172,7 +180,7 @@ replays_unbegun told number declared room (line ∷ rest) = by_long (is_too_long
   by_long true r tells more = refl
   by_long false (Err kind) tells more = refl
   by_long false (Ok (None, after)) tells more = no_text (replayed (at after next declared None) (room - size_of line) rest) ∙ more after declared
-  by_long false (Ok (Some what, after)) tells more = by_kind after what (is_declaration what) refl tells.given more
+  by_long false (Ok (Some what, after)) tells more = ap (λ (r : Result (List Entry × Running) Stop). went after next r >>= replay_after next (room - size_of line) rest) (run_unbegun declared (record { number = next; what = what })) ∙ by_kind after what (is_declaration what) refl tells.given more
 
 -- ---- a whole journal
 

@@ -11,6 +11,10 @@ use Rattle.ch_replay.specs.Running.{Running}
 abbrev pub with_declared : Line → Running → Running
 with_declared line run = record { declared = run.declared ++ line ∷ []; world = run.world }
 
+-- a declaration, which is kept and tells nothing
+abbrev pub declaration_on : Running → Line → Result (List Entry × Running) Stop
+declaration_on run line = Ok ([], with_declared line run)
+
 -- the world, which is that of the declarations before the first event line
 abbrev pub world_so_far : Running → World
 world_so_far run = elim run.world [
@@ -30,5 +34,5 @@ event_on run line = elim run.world [
 ]
 
 -- a line
-abbrev pub run_step : Running → Line → Result (List Entry × Running) Stop
-run_step run line = if is_declaration line.what then Ok ([], with_declared line run) else event_on (begun run) line
+unfoldable pub run_step : Running → Line → Result (List Entry × Running) Stop
+run_step run line = if is_declaration line.what then declaration_on run line else event_on (begun run) line

@@ -6,7 +6,7 @@
 ghost use Rattle.std.specs.Prelude.{◌≡◌, false, OnOk, Ok, MatchResult};
 ghost use Rattle.ch_replay.specs.Replayed.{Stops};
 ghost use Rattle.ch_replay.specs.Running.{unbegun};
-ghost use Rattle.ch_replay.specs.Steps.{with_declared, begun, event_on, run_step};
+ghost use Rattle.ch_replay.specs.Steps.{with_declared, declaration_on, begun, event_on, run_step};
 ghost use Rattle.ch_world.specs.Lines.{is_settle};
 
 use ch_base::{OutOfMemory, Stop};
@@ -43,12 +43,21 @@ impl Running {
         }
     }
 
-    /// Keeps a declaration.
-    fn declare(&mut self, line: Line) -> Result<(), OutOfMemory>
-        ensures { OnOk result (self.new ≡ with_declared line self.old) }
+    /// Keeps a line.
+    fn keep(&mut self, line: &Line) -> Result<(), OutOfMemory>
+        ensures { OnOk result (self.new ≡ with_declared line.now self.old) }
     {
+        let line = line.copy()?;
         self.declared.lines.push(line)?;
         Ok(())
+    }
+
+    /// Keeps a declaration, which tells nothing.
+    fn declare(&mut self, alloc: Global, line: &Line) -> Result<Vec<Entry>, Stop>
+        ensures { MatchResult result (λ entries. declaration_on self.old line.now ≡ Ok (entries.items, self.new)) (λ e. Stops e (declaration_on self.old line.now)) }
+    {
+        self.keep(line)?;
+        Ok(Vec::new(alloc))
     }
 
     /// Makes the world of the declarations, where there is none yet.
@@ -62,7 +71,7 @@ impl Running {
     }
 
     /// What an event line does in the world; nothing where there is none.
-    fn event(&mut self, alloc: Global, line: &Line) -> Result<Vec<Entry>, Stop>
+    fn in_world(&mut self, alloc: Global, line: &Line) -> Result<Vec<Entry>, Stop>
         requires { is_settle line.now.what ≡ false }
         ensures { MatchResult result (λ entries. event_on self.old line.now ≡ Ok (entries.items, self.new)) (λ e. Stops e (event_on self.old line.now)) }
     {
@@ -72,17 +81,26 @@ impl Running {
         }
     }
 
+    /// What an event line does, in the world that is there or that it is the first of.
+    fn event(&mut self, alloc: Global, line: &Line) -> Result<Vec<Entry>, Stop>
+        requires { is_settle line.now.what ≡ false }
+        ensures { MatchResult result (λ entries. event_on (begun self.old) line.now ≡ Ok (entries.items, self.new)) (λ e. Stops e (event_on (begun self.old) line.now)) }
+    {
+        self.begin(alloc)?;
+        self.in_world(alloc, line)
+    }
+
     /// What a line does: a declaration is kept, and an event line is a step of the world. After a stop
     /// nothing is known of the run.
-    pub(crate) fn step(&mut self, alloc: Global, line: Line) -> Result<Vec<Entry>, Stop>
-        requires { is_settle line.what ≡ false }
-        ensures { MatchResult result (λ entries. run_step self.old line ≡ Ok (entries.items, self.new)) (λ e. Stops e (run_step self.old line)) }
+    #[tactic(auto, unfolding(crate::specs::Steps::run_step))]
+    pub(crate) fn step(&mut self, alloc: Global, line: &Line) -> Result<Vec<Entry>, Stop>
+        requires { is_settle line.now.what ≡ false }
+        ensures { MatchResult result (λ entries. run_step self.old line.now ≡ Ok (entries.items, self.new)) (λ e. Stops e (run_step self.old line.now)) }
     {
         if is_declaration(&line.what) {
-            self.declare(line)?;
-            return Ok(Vec::new(alloc));
+            self.declare(alloc, line)
+        } else {
+            self.event(alloc, line)
         }
-        self.begin(alloc)?;
-        self.event(alloc, &line)
     }
 }
