@@ -20,3 +20,6 @@ pub mod Grown
 pub mod Asks
 pub mod Dials
 pub mod Joined
+pub mod Come
+pub mod Apart
+pub mod Fed

@@ -32,7 +32,7 @@ follows_more e (i ∷ is) item each next = (each.0, follows_more expected.Frame 
   later [] h = h
   later (j ∷ js) h = h
 
-nothing_left : (e : Expected) → IsUnfinished e []
+pub nothing_left : (e : Expected) → IsUnfinished e []
 nothing_left expected.Request = inl (omega arith)
 nothing_left expected.Answer = omega arith
 nothing_left expected.Frame = inl (omega arith)

@@ -8,3 +8,4 @@ pub mod Requests
 pub mod Ends
 pub mod Asks
 pub mod Arrivals
+pub mod Rows

@@ -4,7 +4,7 @@
 //! machine with its laws.
 #![tactic(auto)]
 
-ghost use Rattle.std.specs.Prelude.{ℕ, Bool, List, [], ◌∷◌, length};
+ghost use Rattle.std.specs.Prelude.{ℕ, Bool, true, false, List, [], ◌∷◌, length, Some, None};
 ghost use Rattle.ch_model.specs.declared.name.End.{End};
 ghost use Rattle.ch_model.specs.HostState.{Link, Socket};
 ghost use Rattle.ch_model.specs.declared.step.Weight.{Weight};
@@ -18,11 +18,21 @@ ghost use Rattle.ch_light.specs.declared.Connection.{Connection};
 ghost use Rattle.ch_laws_race.specs.Answers.{ReadsAnswer, ReadsAccepted, reads_and_says};
 ghost use Rattle.ch_laws_race.specs.Requests.{ReadsWhileShut, ReadsWhileFree, ReadsWhileDialing, ReadsWhileLesserDials, ReadsWhileUp, ReadsWhileProbed, accepts_and_says};
 ghost use Rattle.ch_laws_race.specs.Asks.{AsksUp, AsksWaiting, AsksIdle, asks_link};
-ghost use Rattle.ch_laws_race.specs.Arrivals.{IsSeenFrom, Joins, joined_in, hears_joined, Comes, accepting, come_in, hears_come};
+ghost use Rattle.ch_laws_race.specs.Arrivals.{IsSeenFrom, Joins, joined_in, hears_joined, Comes, accepting, come_in, hears_come, Feeds, fed_in, hears_fed};
 ghost use Rattle.ch_laws_race.specs.Ends.{InputEndsUp, InputEndsDialing, InputEndsUnnamed, end_at, input_ends};
 ghost use Rattle.ch_laws_race.specs.Scene.{link_of};
 ghost use Rattle.ch_race.specs.Moves.{Read_o, Read_t, Say, Want, Join, Come};
+ghost use Rattle.ch_wire.specs.declared.answer.Answer.TheVariants as answers;
 ghost use Rattle.ch_wire.specs.declared.answer.Answer.TheVariants.{Crossed, Invalid};
+ghost use Rattle.ch_wire.specs.declared.frame.Frame.TheVariants as frames;
+ghost use Rattle.ch_wire.specs.Spelling.{request_spelling, answer_spelling, frame_spelling};
+ghost use Rattle.ch_reader.specs.declared.item.Expected.TheVariants as expected;
+ghost use Rattle.ch_light.specs.Ids.{opened, closed};
+ghost use Rattle.ch_link.specs.declared.LinkState.TheVariants.{Idle, Dialing, Up};
+ghost use Rattle.ch_model.specs.declared.name.End.TheVariants.{O, T};
+ghost use Rattle.ch_model.specs.declared.step.Weight.TheVariants.{Free};
+ghost use Rattle.ch_model.specs.Stages.{Pending, Open, Ended};
+ghost use Rattle.ch_laws_race.specs.Rows.{up_with, dials_with, lesser_asked, greater_asked, left_with, stale, at_first, just_dialed, request_of, known_as, dialed_by, dialing_by, cell_of};
 
 /// A probe that is read on the socket that the link is up on is acknowledged there, at either end.
 pub fn probe_is_read()
@@ -153,4 +163,44 @@ pub fn link_dials()
 pub fn socket_joins()
     ensures { (scene : Scene) (x : Side) (cell : Cell × ℕ) (i : ℕ) (socket : WorldSocket) (known : Socket) → Joins scene x cell i socket known
         → IsSeenFrom scene x cell (joined_in scene socket) (hears_joined scene x known) (Join i ∷ []) }
+{}
+
+/// A socket that its target's host has taken is open at that end.
+pub fn socket_comes()
+    ensures { (scene : Scene) (x : Side) (cell : Cell × ℕ) (i : ℕ) (socket : WorldSocket) → Comes scene x cell i socket
+        → IsSeenFrom scene x (accepting cell) (come_in scene x cell socket) (hears_come scene x cell socket) (Come i ∷ []) }
+{}
+
+/// Bytes that are fed, however many, are seen as nothing: an item is what it was until it is read.
+pub fn bytes_are_fed()
+    ensures { (scene : Scene) (x : Side) (cell : Cell × ℕ) (e : End) (i count : ℕ) (socket : WorldSocket) (known : Socket) → Feeds scene x cell e i socket known
+        → IsSeenFrom scene x cell (fed_in scene e count socket) (hears_fed scene x e count socket known) [] }
+{}
+
+/// What the laws ask can be had: small scenes of two nodes on two hosts, one for each law.
+pub fn scenes()
+    ensures probe { ReadsProbe (up_with false (frame_spelling frames.Probe)) Lesser (cell_of Lesser (up_with false (frame_spelling frames.Probe))) O 0 (dialed_by Lesser Open Open) (known_as Lesser 0 Open (Some expected.Frame) (frame_spelling frames.Probe)) false }
+    ensures acknowledgement { ReadsAck (up_with true (frame_spelling frames.ProbeAck)) Lesser (cell_of Lesser (up_with true (frame_spelling frames.ProbeAck))) O 0 (dialed_by Lesser Open Open) (known_as Lesser 0 Open (Some expected.Frame) (frame_spelling frames.ProbeAck)) true }
+    ensures closing { ReadsClosed (up_with false (frame_spelling frames.EndClosed)) Lesser (cell_of Lesser (up_with false (frame_spelling frames.EndClosed))) O 0 (dialed_by Lesser Open Open) (known_as Lesser 0 Open (Some expected.Frame) (frame_spelling frames.EndClosed)) false }
+    ensures payload { ReadsPayload (up_with false (frame_spelling (frames.Data 1024 []))) Lesser (cell_of Lesser (up_with false (frame_spelling (frames.Data 1024 [])))) O 0 (dialed_by Lesser Open Open) (known_as Lesser 0 Open (Some expected.Frame) (frame_spelling (frames.Data 1024 []))) 1024 [] 1 }
+    ensures close { ReadsClose (up_with false (frame_spelling (frames.Closed 1024))) Lesser (cell_of Lesser (up_with false (frame_spelling (frames.Closed 1024)))) O 0 (dialed_by Lesser Open Open) (known_as Lesser 0 Open (Some expected.Frame) (frame_spelling (frames.Closed 1024))) 1024 (1, closed 1 ∷ []) }
+    ensures opening { ReadsOpen (up_with false (frame_spelling (frames.Created 1025))) Lesser (cell_of Lesser (up_with false (frame_spelling (frames.Created 1025)))) O 0 (dialed_by Lesser Open Open) (known_as Lesser 0 Open (Some expected.Frame) (frame_spelling (frames.Created 1025))) 1025 (opened 1 ∷ opened 3 ∷ []) }
+    ensures acceptance { ReadsAccepted (dials_with (answer_spelling answers.Accepted)) Lesser (cell_of Lesser (dials_with (answer_spelling answers.Accepted))) 0 (dialed_by Lesser Open Open) (known_as Lesser 0 Open (Some expected.Answer) (answer_spelling answers.Accepted)) }
+    ensures crossing { ReadsAnswer (dials_with (answer_spelling answers.Crossed)) Lesser (cell_of Lesser (dials_with (answer_spelling answers.Crossed))) 0 (dialed_by Lesser Open Open) (known_as Lesser 0 Open (Some expected.Answer) (answer_spelling answers.Crossed)) answers.Crossed }
+    ensures refusal { ReadsAnswer (dials_with (answer_spelling answers.Invalid)) Lesser (cell_of Lesser (dials_with (answer_spelling answers.Invalid))) 0 (dialed_by Lesser Open Open) (known_as Lesser 0 Open (Some expected.Answer) (answer_spelling answers.Invalid)) answers.Invalid }
+    ensures while_shut { ReadsWhileShut (lesser_asked false expected.Answer Idle) Lesser (cell_of Lesser (lesser_asked false expected.Answer Idle)) 1 (dialed_by Greater Open Open) (known_as Lesser 1 Open None (request_spelling (request_of Greater))) }
+    ensures while_free { ReadsWhileFree (lesser_asked true expected.Answer Idle) Lesser (cell_of Lesser (lesser_asked true expected.Answer Idle)) 1 (dialed_by Greater Open Open) (known_as Lesser 1 Open None (request_spelling (request_of Greater))) }
+    ensures while_greater_dials { ReadsWhileDialing greater_asked (cell_of Greater greater_asked) 0 (dialed_by Lesser Open Open) (known_as Greater 1 Open None (request_spelling (request_of Lesser))) 0 }
+    ensures while_lesser_dials { ReadsWhileLesserDials (lesser_asked true expected.Answer (Dialing 0)) (cell_of Lesser (lesser_asked true expected.Answer (Dialing 0))) 1 (dialed_by Greater Open Open) (known_as Lesser 1 Open None (request_spelling (request_of Greater))) 0 (dialed_by Lesser Open Open) (known_as Lesser 0 Open (Some expected.Answer) []) }
+    ensures while_up { ReadsWhileUp (lesser_asked true expected.Frame (Up 0 false)) Lesser (cell_of Lesser (lesser_asked true expected.Frame (Up 0 false))) 1 (dialed_by Greater Open Open) (known_as Lesser 1 Open None (request_spelling (request_of Greater))) O 0 (dialed_by Lesser Open Open) (known_as Lesser 0 Open (Some expected.Frame) []) }
+    ensures while_probed { ReadsWhileProbed (lesser_asked true expected.Frame (Up 0 true)) Lesser (cell_of Lesser (lesser_asked true expected.Frame (Up 0 true))) 1 (dialed_by Greater Open Open) (known_as Lesser 1 Open None (request_spelling (request_of Greater))) 0 }
+    ensures end_while_up { InputEndsUp (left_with (Up 0 false) expected.Frame) Lesser (cell_of Lesser (left_with (Up 0 false) expected.Frame)) O 0 (dialed_by Lesser Open Ended) (known_as Lesser 0 Open (Some expected.Frame) []) false }
+    ensures end_while_dialing { InputEndsDialing (left_with (Dialing 0) expected.Answer) Lesser (cell_of Lesser (left_with (Dialing 0) expected.Answer)) O 0 (dialed_by Lesser Open Ended) (known_as Lesser 0 Open (Some expected.Answer) []) }
+    ensures end_elsewhere { InputEndsUnnamed stale Lesser (cell_of Lesser stale) T 0 (dialed_by Greater Ended Open) (known_as Lesser 1 Open None []) }
+    ensures said { AsksUp (up_with false []) Lesser (cell_of Lesser (up_with false [])) O 0 (dialed_by Lesser Open Open) (known_as Lesser 0 Open (Some expected.Frame) []) (frames.Created 1025, Free) (link_of (up_with false []) Lesser) false }
+    ensures waits { AsksWaiting just_dialed Lesser (cell_of Lesser just_dialed) (link_of just_dialed Lesser) }
+    ensures dials { AsksIdle at_first Lesser (cell_of Lesser at_first) (link_of at_first Lesser) }
+    ensures fed { Feeds (up_with false []) Lesser (cell_of Lesser (up_with false [])) O 0 (dialed_by Lesser Open Open) (known_as Lesser 0 Open (Some expected.Frame) []) }
+    ensures joins { Joins just_dialed Lesser (cell_of Lesser just_dialed) 0 (dialing_by Lesser Pending) (known_as Lesser 0 Pending (Some expected.Answer) []) }
+    ensures comes { Comes just_dialed Greater (cell_of Greater just_dialed) 0 (dialing_by Lesser Pending) }
 {}

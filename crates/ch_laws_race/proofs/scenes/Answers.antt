@@ -1,0 +1,187 @@
+use Rattle.std.specs.Prelude.{◌≡◌, ◌<◌, ◌≤◌, ℕ, ◌==◌, nat_eq, Bool, true, false, List, [], ◌∷◌, ◌++◌, find, Option, Some, None}
+use Rattle.std.specs.List.{list_any}
+use Rattle.std.proofs.Common.{refl, ap, sym, ◌∙◌, subst, arith, inl, inr}
+use Rattle.std.proofs.lemmas.List.{append-nil}
+use Rattle.std.specs.Fmt.{digits}
+use Rattle.ch_wire.specs.Spelling.{request_spelling, answer_spelling, frame_spelling}
+use Rattle.ch_wire.specs.declared.answer.Answer.TheVariants as answers
+use Rattle.ch_wire.specs.declared.frame.Frame.TheVariants as frames
+use Rattle.ch_wire.specs.declared.request.Request.{Request}
+use Rattle.ch_wire.specs.Spelling.{IsRequest}
+use Rattle.ch_reader.specs.declared.item.Expected.{Expected}
+use Rattle.ch_reader.specs.declared.item.Expected.TheVariants as expected
+use Rattle.ch_reader.specs.declared.item.Item.{Item}
+use Rattle.ch_reader.specs.declared.item.Item.TheVariants as items
+use Rattle.ch_reader.specs.Items.{item_spelling, MayStand}
+use Rattle.ch_reader.specs.Streams.{IsStreamFrom}
+use Rattle.ch_light.specs.Ids.{conn_of, closed_of, created_of}
+use Rattle.ch_link.specs.Sockets.{names}
+use Rattle.ch_link.specs.declared.LinkState.{LinkState}
+use Rattle.ch_link.specs.declared.LinkState.TheVariants.{Idle, Dialing, Up}
+use Rattle.ch_watch.specs.Same.{same_node}
+use Rattle.ch_model.specs.declared.name.End.{End}
+use Rattle.ch_model.specs.declared.name.End.TheVariants.{O, T}
+use Rattle.ch_model.specs.Stages.{Open}
+use Rattle.ch_model.specs.HostState.{Link, Socket, HostState}
+use Rattle.ch_model.specs.HostSteps.{is_socket}
+use Rattle.ch_model.specs.WorldState.{WorldSocket}
+use Rattle.ch_model.specs.WorldSockets.{end_of}
+use Rattle.ch_race.specs.Pair.{Side, Lesser, Greater}
+use Rattle.ch_laws_race.specs.Scene.{Scene, host_of, link_of}
+use Rattle.ch_laws_race.specs.View.{has_end}
+use Rattle.ch_laws_race.specs.Sound.{Acts, HasEnd, HasPlace}
+use Rattle.ch_laws_race.specs.Reading.{Reads}
+use Rattle.ch_laws_race.specs.Rows.{all_apart, host_with, cell_with, scene_with, known_as, request_of, just_dialed}
+use Rattle.ch_laws_race.proofs.Sockets.{same_place}
+use Rattle.ch_laws_race.proofs.Socks.{nothing_left}
+use Rattle.ch_laws_race.proofs.Apart.{apart_by}
+use Rattle.ch_laws_race.proofs.scenes.Goals as goal
+
+one_zero : {A : Type 0} → 1 ≡ 0 → A
+one_zero h = absurd (clash h) where
+  clash : 1 ≡ 0 → ⊥
+  clash h = omega arith
+
+zero_one : {A : Type 0} → 0 ≡ 1 → A
+zero_one h = absurd (clash h) where
+  clash : 0 ≡ 1 → ⊥
+  clash h = omega arith
+
+wrong : {A : Type 0} → false ≡ true → A
+wrong h = absurd (clash h) where
+  clash : false ≡ true → ⊥
+  clash h = cc
+
+-- the lesser node acts, and the greater
+lesser_acts : (is_open : Bool) (links : List Link) (sockets : List Socket) (other : HostState) (xs : List WorldSocket) → all_apart xs ≡ true
+    → Acts (scene_with (host_with Lesser is_open links sockets) other xs) Lesser (cell_with (host_with Lesser is_open links sockets))
+unfolding digits
+lesser_acts is_open links sockets other xs apart = record { there = refl; own = refl; order = refl; differ = λ h. one_zero h; apart = apart_by xs apart }
+
+greater_acts : (is_open : Bool) (links : List Link) (sockets : List Socket) (other : HostState) (xs : List WorldSocket) → all_apart xs ≡ true
+    → Acts (scene_with other (host_with Greater is_open links sockets) xs) Greater (cell_with (host_with Greater is_open links sockets))
+unfolding digits
+greater_acts is_open links sockets other xs apart = record { there = refl; own = refl; order = refl; differ = λ h. zero_one h; apart = apart_by xs apart }
+
+-- one item stands alone
+alone : (e : Expected) (item : Item) → MayStand e item → IsStreamFrom e (item_spelling item ++ []) (item ∷ []) []
+alone e item fits = record { whole = sym (append-nil (item_spelling item ++ [])); each = (fits, tt); unfinished = nothing_left expected.Frame }
+
+reads_alone : (scene : Scene) (x : Side) (e : End) (i : ℕ) (s : WorldSocket) (known : Socket) (item : Item) → HasEnd scene x e i known.number s → (end_of e s).stage ≡ Open → find (is_socket known.number) (host_of scene x).sockets ≡ Some known
+    → known.since ≡ item_spelling item → (end_of e s).unread ≡ [] → MayStand known.expected item → Reads scene x e i s known item
+reads_alone scene x e i s known item has standing kept since unread fits = record {
+  has = has;
+  standing = standing;
+  kept = kept;
+  more = [];
+  front = since ∙ sym (append-nil (item_spelling item));
+  rest = [];
+  part = [];
+  stream = subst (λ (z : List ℕ). IsStreamFrom known.expected z (item ∷ []) []) (sym (ap (λ (a : List ℕ). a ++ (end_of e s).unread) since ∙ ap (λ (b : List ℕ). item_spelling item ++ b) unread)) (alone known.expected item fits);
+}
+
+is_request : (x : Side) → IsRequest (request_of x)
+unfolding digits
+is_request Lesser = record { target = omega arith; address = record { host = tt; port_low = omega arith; port_high = omega arith; id = omega arith; short = omega arith } }
+is_request Greater = record { target = omega arith; address = record { host = tt; port_low = omega arith; port_high = omega arith; id = omega arith; short = omega arith } }
+
+pub returns-clause-probe : goal.returns-clause-probe
+unfolding same_node
+returns-clause-probe z = record { acts = lesser_acts _ _ _ _ _ refl; reads = reads_alone _ _ _ _ _ _ _ (record { at = refl; end = refl; between = refl; opener = refl; target = refl }) refl refl refl refl tt; user = refl; up = refl; way = λ h. record { items = []; whole = refl; each = tt; next = tt } }
+
+pub returns-clause-acknowledgement : goal.returns-clause-acknowledgement
+unfolding same_node
+returns-clause-acknowledgement z = record { acts = lesser_acts _ _ _ _ _ refl; reads = reads_alone _ _ _ _ _ _ _ (record { at = refl; end = refl; between = refl; opener = refl; target = refl }) refl refl refl refl tt; user = refl; up = refl }
+
+pub returns-clause-closing : goal.returns-clause-closing
+unfolding same_node
+returns-clause-closing z = record { acts = lesser_acts _ _ _ _ _ refl; reads = reads_alone _ _ _ _ _ _ _ (record { at = refl; end = refl; between = refl; opener = refl; target = refl }) refl refl refl refl tt; user = refl; up = refl }
+
+pub returns-clause-payload : goal.returns-clause-payload
+unfolding same_node conn_of
+returns-clause-payload z = record { acts = lesser_acts _ _ _ _ _ refl; reads = reads_alone _ _ _ _ _ _ _ (record { at = refl; end = refl; between = refl; opener = refl; target = refl }) refl refl refl refl ((omega arith, omega arith), omega arith); user = refl; carried = refl }
+
+pub returns-clause-close : goal.returns-clause-close
+unfolding same_node closed_of conn_of
+returns-clause-close z = record { acts = lesser_acts _ _ _ _ _ refl; reads = reads_alone _ _ _ _ _ _ _ (record { at = refl; end = refl; between = refl; opener = refl; target = refl }) refl refl refl refl (omega arith); user = refl; closes = refl }
+
+pub returns-clause-opening : goal.returns-clause-opening
+unfolding same_node created_of
+returns-clause-opening z = record { acts = lesser_acts _ _ _ _ _ refl; reads = reads_alone _ _ _ _ _ _ _ (record { at = refl; end = refl; between = refl; opener = refl; target = refl }) refl refl refl refl (omega arith); user = refl; creates = refl; grows = refl }
+
+pub returns-clause-acceptance : goal.returns-clause-acceptance
+unfolding same_node
+returns-clause-acceptance z = record { answer = record { acts = lesser_acts _ _ _ _ _ refl; reads = reads_alone _ _ _ _ _ _ _ (record { at = refl; end = refl; between = refl; opener = refl; target = refl }) refl refl refl refl tt; user = refl; dials = refl }; payloads = (refl, tt); way = λ h. record { items = []; whole = refl; each = tt; framed = refl; spelled = (omega arith, tt) } }
+
+pub returns-clause-crossing : goal.returns-clause-crossing
+unfolding same_node
+returns-clause-crossing z = record { acts = lesser_acts _ _ _ _ _ refl; reads = reads_alone _ _ _ _ _ _ _ (record { at = refl; end = refl; between = refl; opener = refl; target = refl }) refl refl refl refl tt; user = refl; dials = refl }
+
+pub returns-clause-refusal : goal.returns-clause-refusal
+unfolding same_node
+returns-clause-refusal z = record { acts = lesser_acts _ _ _ _ _ refl; reads = reads_alone _ _ _ _ _ _ _ (record { at = refl; end = refl; between = refl; opener = refl; target = refl }) refl refl refl refl tt; user = refl; dials = refl }
+
+pub returns-clause-while_shut : goal.returns-clause-while_shut
+unfolding same_node
+returns-clause-while_shut z = record { request = record { acts = lesser_acts _ _ _ _ _ refl; reads = reads_alone _ _ _ _ _ _ _ (record { at = refl; end = refl; between = refl; opener = refl; target = refl }) refl refl refl refl (is_request Greater); matches = refl; way = λ h. record { items = []; whole = refl; each = tt; next = tt } }; shut = refl }
+
+pub returns-clause-while_free : goal.returns-clause-while_free
+unfolding same_node
+returns-clause-while_free z = record { request = record { acts = lesser_acts _ _ _ _ _ refl; reads = reads_alone _ _ _ _ _ _ _ (record { at = refl; end = refl; between = refl; opener = refl; target = refl }) refl refl refl refl (is_request Greater); matches = refl; way = λ h. record { items = []; whole = refl; each = tt; next = tt } }; stands = refl; free = inl refl; payloads = (refl, tt); spelled = (omega arith, tt) }
+
+pub returns-clause-while_greater_dials : goal.returns-clause-while_greater_dials
+unfolding same_node
+returns-clause-while_greater_dials z = record { request = record { acts = greater_acts _ _ _ _ _ refl; reads = reads_alone _ _ _ _ _ _ _ (record { at = refl; end = refl; between = refl; opener = refl; target = refl }) refl refl refl refl (is_request Lesser); matches = refl; way = λ h. record { items = []; whole = refl; each = tt; next = tt } }; stands = refl; dials = refl }
+
+pub returns-clause-while_lesser_dials : goal.returns-clause-while_lesser_dials
+unfolding same_node
+returns-clause-while_lesser_dials z = record { request = record { acts = lesser_acts _ _ _ _ _ refl; reads = reads_alone _ _ _ _ _ _ _ (record { at = refl; end = refl; between = refl; opener = refl; target = refl }) refl refl refl refl (is_request Greater); matches = refl; way = λ h. record { items = []; whole = refl; each = tt; next = tt } }; stands = refl; dials = refl; dial = record { at = refl; end = refl; between = refl; opener = refl; target = refl }; own_kept = refl; payloads = (refl, tt); spelled = (omega arith, tt) }
+
+pub returns-clause-while_up : goal.returns-clause-while_up
+unfolding same_node
+returns-clause-while_up z = record { request = record { acts = lesser_acts _ _ _ _ _ refl; reads = reads_alone _ _ _ _ _ _ _ (record { at = refl; end = refl; between = refl; opener = refl; target = refl }) refl refl refl refl (is_request Greater); matches = refl; way = λ h. record { items = []; whole = refl; each = tt; next = tt } }; stands = refl; is = refl; has = record { at = refl; end = refl; between = refl; opener = refl; target = refl }; apart = refl; up_kept = refl; probe = λ h. record { items = []; whole = refl; each = tt; next = tt } }
+
+pub returns-clause-while_probed : goal.returns-clause-while_probed
+unfolding same_node
+returns-clause-while_probed z = record { request = record { acts = lesser_acts _ _ _ _ _ refl; reads = reads_alone _ _ _ _ _ _ _ (record { at = refl; end = refl; between = refl; opener = refl; target = refl }) refl refl refl refl (is_request Greater); matches = refl; way = λ h. record { items = []; whole = refl; each = tt; next = tt } }; stands = refl; is = refl }
+
+pub returns-clause-end_while_up : goal.returns-clause-end_while_up
+unfolding same_node
+returns-clause-end_while_up z = record { input = record { acts = lesser_acts _ _ _ _ _ refl; has = record { at = refl; end = refl; between = refl; opener = refl; target = refl }; standing = refl; stands = refl; kept = refl; empty = refl; over = inr refl }; user = refl; up = refl }
+
+pub returns-clause-end_while_dialing : goal.returns-clause-end_while_dialing
+unfolding same_node
+returns-clause-end_while_dialing z = record { input = record { acts = lesser_acts _ _ _ _ _ refl; has = record { at = refl; end = refl; between = refl; opener = refl; target = refl }; standing = refl; stands = refl; kept = refl; empty = refl; over = inr refl }; user = refl; dials = refl }
+
+pub returns-clause-end_elsewhere : goal.returns-clause-end_elsewhere
+unfolding same_node
+returns-clause-end_elsewhere z = record { input = record { acts = lesser_acts _ _ _ _ _ refl; has = record { at = refl; end = refl; between = refl; opener = refl; target = refl }; standing = refl; stands = refl; kept = refl; empty = refl; over = inr refl }; user = inl refl; unnamed = refl; unseen = refl }
+
+pub returns-clause-said : goal.returns-clause-said
+unfolding same_node
+returns-clause-said z = record { acts = lesser_acts _ _ _ _ _ refl; has = record { at = refl; end = refl; between = refl; opener = refl; target = refl }; kept = refl; renewed = record { end = refl; peer = refl; state = refl }; up = refl; payload = refl; way = λ h. record { items = []; whole = refl; each = tt; next = omega arith } }
+
+pub returns-clause-waits : goal.returns-clause-waits
+unfolding same_node
+returns-clause-waits z = record { acts = lesser_acts _ _ _ _ _ refl; renewed = record { end = refl; peer = refl; state = refl }; busy = inl (0, refl) }
+
+pub returns-clause-dials : goal.returns-clause-dials
+unfolding same_node
+returns-clause-dials z = record { acts = lesser_acts _ _ _ _ _ refl; renewed = record { end = refl; peer = refl; state = refl }; idle = refl; stands = refl; room = refl; new_number = refl; called_own = refl; called_peer = refl; apart = refl; new_name = refl; other_known = λ m h. wrong h }
+
+pub returns-clause-fed : goal.returns-clause-fed
+unfolding same_node
+returns-clause-fed z = record { acts = lesser_acts _ _ _ _ _ refl; has = record { at = refl; end = refl; between = refl; opener = refl; target = refl }; kept = refl; stands = refl }
+
+pub returns-clause-joins : goal.returns-clause-joins
+unfolding same_node
+returns-clause-joins z = record { acts = lesser_acts _ _ _ _ _ refl; has = record { at = refl; end = refl; between = refl; opener = refl; target = refl }; waiting = refl; kept = refl; waits = refl; asks = refl; user = refl; way = λ h. record { items = []; whole = refl; each = tt; next = is_request Lesser } }
+
+known_of : (z : Side) (m : ℕ) → names (link_of just_dialed z).state m ≡ true → list_any (has_end (just_dialed.party z).place m) just_dialed.world.sockets ≡ true
+unfolding same_node
+known_of Lesser m h = subst (λ (n : ℕ). list_any (has_end 0 n) just_dialed.world.sockets ≡ true) (same_place 0 m h) refl
+known_of Greater m h = wrong h
+
+pub returns-clause-comes : goal.returns-clause-comes
+unfolding same_node
+returns-clause-comes z = record { acts = greater_acts _ _ _ _ _ refl; at = refl; between = refl; opener = refl; cell_is = refl; unnumbered = refl; waiting = refl; new_number = refl; known = known_of }
