@@ -37,14 +37,14 @@ use Rattle.ch_laws_race.proofs.Socks.{nothing_left}
 use Rattle.ch_laws_race.proofs.Apart.{apart_by}
 use Rattle.ch_laws_race.proofs.scenes.Goals as goal
 
-one_zero : {A : Type 0} → 1 ≡ 0 → A
+one_zero : {A : Type 0} → ◌≡◌ {A = ℕ} 1 0 → A
 one_zero h = absurd (clash h) where
-  clash : 1 ≡ 0 → ⊥
+  clash : ◌≡◌ {A = ℕ} 1 0 → ⊥
   clash h = omega arith
 
-zero_one : {A : Type 0} → 0 ≡ 1 → A
+zero_one : {A : Type 0} → ◌≡◌ {A = ℕ} 0 1 → A
 zero_one h = absurd (clash h) where
-  clash : 0 ≡ 1 → ⊥
+  clash : ◌≡◌ {A = ℕ} 0 1 → ⊥
   clash h = omega arith
 
 wrong : {A : Type 0} → false ≡ true → A
@@ -82,8 +82,8 @@ reads_alone scene x e i s known item has standing kept since unread fits = recor
 
 is_request : (x : Side) → IsRequest (request_of x)
 unfolding digits
-is_request Lesser = record { target = omega arith; address = record { host = tt; port_low = omega arith; port_high = omega arith; id = omega arith; short = omega arith } }
-is_request Greater = record { target = omega arith; address = record { host = tt; port_low = omega arith; port_high = omega arith; id = omega arith; short = omega arith } }
+is_request Lesser = record { target = omega arith; address = record { host = refl; port_low = omega arith; port_high = omega arith; id = omega arith; short = omega arith } }
+is_request Greater = record { target = omega arith; address = record { host = refl; port_low = omega arith; port_high = omega arith; id = omega arith; short = omega arith } }
 
 pub returns-clause-probe : goal.returns-clause-probe
 unfolding same_node
