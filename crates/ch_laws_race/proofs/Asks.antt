@@ -1,26 +1,19 @@
 -- What connections ask of a link, as moves.
-use Rattle.std.specs.Prelude.{◌≡◌, ◌⊎◌, ℕ, ◌+◌, Bool, true, false, cond, ◌||◌, ◌&&◌, ◌==◌, nat_eq, List, [], ◌∷◌, ◌++◌, length, find, is_some, nat_lt, slice_get, slice_set, Option, Some, None, Ok, Err, if◌then◌else◌}
-use Rattle.std.specs.List.{list_any}
-use Rattle.std.specs.Str.{bytes_eq}
-use Rattle.std.proofs.Common.{refl, ap, sym, ◌∙◌, subst, inl, inr}
+use Rattle.std.specs.Prelude.{◌≡◌, ◌⊎◌, ℕ, ◌+◌, Bool, true, cond, nat_eq, List, [], ◌∷◌, ◌++◌, find, nat_lt, slice_get, slice_set, Option, Some, None, Ok, Err, if◌then◌else◌}
+use Rattle.std.proofs.Common.{refl, ap, sym, ◌∙◌, inl, inr}
 use Rattle.ch_base.specs.declared.address.Address.{Address}
 use Rattle.ch_base.specs.declared.memory.Stop.TheVariants as stops
 use Rattle.ch_wire.specs.Spelling.{frame_spelling}
 use Rattle.ch_wire.specs.declared.frame.Frame.{Frame}
 use Rattle.ch_reader.specs.declared.item.Expected.{Expected}
-use Rattle.ch_reader.specs.declared.item.Expected.TheVariants as expected
 use Rattle.ch_reader.specs.declared.item.Item.TheVariants as items
 use Rattle.ch_link.specs.Table.{step_of}
-use Rattle.ch_link.specs.Sockets.{names}
 use Rattle.ch_link.specs.declared.LinkState.{LinkState}
 use Rattle.ch_link.specs.declared.LinkState.TheVariants.{Idle, Dialing, AwaitOther, Up}
 use Rattle.ch_link.specs.declared.LinkIn.TheVariants as inputs
 use Rattle.ch_model.specs.declared.name.End.{End}
-use Rattle.ch_model.specs.declared.name.End.TheVariants.{O, T}
-use Rattle.ch_model.specs.declared.step.Step.{Step}
 use Rattle.ch_model.specs.declared.step.Step.TheVariants as steps
 use Rattle.ch_model.specs.declared.step.Weight.{Weight}
-use Rattle.ch_model.specs.Stages.{Pending, Ended}
 use Rattle.ch_model.specs.HostState.{Link, Socket, HostState}
 use Rattle.ch_model.specs.HostSteps as host
 use Rattle.ch_model.specs.HostSteps.{Stepped, own_address, is_socket, link_with, with_link, with_socket}
@@ -28,29 +21,26 @@ use Rattle.ch_model.specs.HostWrites.{said_of, frame_step}
 use Rattle.ch_model.specs.HostLinks as links
 use Rattle.ch_model.specs.HostLinks.{most_dials, next_dial, dialed}
 use Rattle.ch_model.specs.HostCalls.{puts_and_wants}
-use Rattle.ch_model.specs.Same.{is_between}
-use Rattle.ch_model.specs.Naming.{Names, called}
-use Rattle.ch_model.specs.WorldState.{Cell, WorldEnd, WorldSocket, World}
+use Rattle.ch_model.specs.WorldState.{Cell, WorldSocket}
 use Rattle.ch_model.specs.WorldSockets as world
 use Rattle.ch_model.specs.WorldSockets.{end_of, with_end, is_end_of, end_at, end_of_nobody, is_socket_named, store_in, next_name, cell_of, target_end, new_socket}
 use Rattle.ch_model.specs.WorldSteps.{stepped}
 use Rattle.ch_race.specs.Pair as pair
 use Rattle.ch_race.specs.Pair.{Side, Lesser, Greater, other, is_greater, Sock, Pair, put, point, says, fresh}
-use Rattle.ch_race.specs.Moves.{Say, Want, Allowed, hears, obeys, say, after}
-use Rattle.ch_laws_race.specs.Scene.{Party, Scene, hosts_of, host_of, link_of, after_steps, done_by}
-use Rattle.ch_laws_race.specs.View as views
-use Rattle.ch_laws_race.specs.View.{frame_kind, Reader, reader_of, record_of, reader_at, opener_of, sock_with, sock_of, sock_seen, has_end, place_of, with_places, is_shut, seen, view}
-use Rattle.ch_laws_race.specs.Sound.{Acts, HasEnd, TakesItem, first_of}
+use Rattle.ch_race.specs.Moves.{Say, say}
+use Rattle.ch_laws_race.specs.Scene.{Scene, hosts_of, host_of, link_of, done_by}
+use Rattle.ch_laws_race.specs.View.{frame_kind, Reader, reader_of, record_of, reader_at, place_of, with_places, seen, view}
+use Rattle.ch_laws_race.specs.Sound.{first_of}
 use Rattle.ch_laws_race.specs.Reading.{IsSeen}
-use Rattle.ch_laws_race.specs.Asks.{IsRenewed, asks_link, AsksUp, AsksWaiting, AsksIdle}
-use Rattle.ch_laws_race.proofs.Keys.{equal_bytes, equal_numbers, link_kept, link_named, other_link, socket_kept, other_socket}
-use Rattle.ch_laws_race.proofs.Sockets.{by_test, same_place, Alike, alike_self, set_same}
-use Rattle.ch_laws_race.proofs.Views.{at_place, host_here, hosts_set, self_number, own_reader, Kept, kept_all, kept_link, kept_socket}
+use Rattle.ch_laws_race.specs.Asks.{asks_link, AsksUp, AsksWaiting}
+use Rattle.ch_laws_race.proofs.Keys.{link_kept, link_named}
+use Rattle.ch_laws_race.proofs.Sockets.{by_test, same_place, alike_self, set_same}
+use Rattle.ch_laws_race.proofs.Views.{at_place, hosts_set, own_reader, Kept, kept_all, kept_link}
 use Rattle.ch_laws_race.proofs.Pairs.{point_same}
 use Rattle.ch_laws_race.proofs.Steps.{arrived_alike, writes_there}
 use Rattle.ch_laws_race.proofs.Socks.{sock_by, wrote}
 use Rattle.ch_laws_race.proofs.One.{by_end, World_of, place_is, sock_is, seen_after}
-use Rattle.ch_laws_race.proofs.Grown.{nobody_has, place_stays, place_new, stored_last, none_past, seen_alone, seen_grown}
+use Rattle.ch_laws_race.proofs.Grown.{seen_alone}
 
 -- ---- the host
 

@@ -1,10 +1,9 @@
 -- A socket that has come to its target, as a move.
-use Rattle.std.specs.Prelude.{◌≡◌, ℕ, zero, suc, ◌+◌, Bool, true, false, cond, ◌&&◌, ◌==◌, nat_eq, List, [], ◌∷◌, ◌++◌, find, is_some, slice_get, slice_set, Option, Some, None, Ok}
+use Rattle.std.specs.Prelude.{◌≡◌, ℕ, zero, suc, ◌+◌, Bool, true, false, cond, ◌&&◌, ◌==◌, nat_eq, List, [], ◌∷◌, find, is_some, slice_get, slice_set, Option, Some, None, Ok}
 use Rattle.std.specs.List.{list_any}
 use Rattle.std.proofs.Common.{refl, ap, sym, ◌∙◌}
 use Rattle.std.proofs.lemmas.Bool.{eqb-true, and_parts}
 use Rattle.std.proofs.lemmas.Option.{slice_get_within}
-use Rattle.ch_base.specs.declared.address.Address.{Address}
 use Rattle.ch_reader.specs.declared.item.Expected.{Expected}
 use Rattle.ch_reader.specs.declared.item.Expected.TheVariants as expected
 use Rattle.ch_light.proofs.Lists.{set_here, set_other}
@@ -13,13 +12,13 @@ use Rattle.ch_link.specs.declared.LinkState.{LinkState}
 use Rattle.ch_link.specs.declared.LinkState.TheVariants.{Idle, Dialing, AwaitOther, Up}
 use Rattle.ch_model.specs.declared.name.End.{End}
 use Rattle.ch_model.specs.declared.name.End.TheVariants.{O, T}
-use Rattle.ch_model.specs.Stages.{Stage, Pending, Open}
+use Rattle.ch_model.specs.Stages.{Stage, Open}
 use Rattle.ch_model.specs.HostState.{Link, Socket, HostState}
 use Rattle.ch_model.specs.HostSteps.{is_socket, link_with, with_socket}
 use Rattle.ch_model.specs.Host.{accepted, host_on}
 use Rattle.ch_model.specs.Same.{is_between}
 use Rattle.ch_model.specs.WorldState.{Cell, WorldEnd, WorldSocket, World}
-use Rattle.ch_model.specs.WorldSockets.{end_of, with_end, opened, same_number, is_end_of, end_at}
+use Rattle.ch_model.specs.WorldSockets.{end_of, with_end, opened, same_number, is_end_of}
 use Rattle.ch_model.specs.WorldHappenings.{with_cell}
 use Rattle.ch_race.specs.Pair as pair
 use Rattle.ch_race.specs.Pair.{Side, Lesser, Greater, other, Sock, Pair, dead, put}
@@ -27,7 +26,7 @@ use Rattle.ch_race.specs.Moves.{Come}
 use Rattle.ch_laws_race.specs.Scene.{Scene, hosts_of, host_of, link_of, done_by}
 use Rattle.ch_laws_race.specs.View.{Reader, reader_of, record_of, reader_at, target_end, sock_with, sock_of, sock_seen, has_end, place_of, with_places, is_shut, seen, view}
 use Rattle.ch_laws_race.specs.Arrivals.{IsSeenFrom, next_accepted, Comes, accepting, come_in, hears_come}
-use Rattle.ch_laws_race.proofs.Keys.{equal_numbers, other_socket, socket_kept}
+use Rattle.ch_laws_race.proofs.Keys.{other_socket, socket_kept}
 use Rattle.ch_laws_race.proofs.Sockets.{by_test, same_place, other_place, given, none, end_changed, set_set}
 use Rattle.ch_laws_race.proofs.Views.{alike_pairs, at_place, host_here, hosts_set, self_number}
 use Rattle.ch_laws_race.proofs.Grown.{nobody_has, reader_off}

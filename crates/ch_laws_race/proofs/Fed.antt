@@ -1,23 +1,21 @@
 -- Bytes that are fed, as no move: an item is what it was, until it is read.
-use Rattle.std.specs.Prelude.{◌≡◌, ℕ, Bool, true, false, List, [], ◌++◌, take, drop, find, slice_set, Option, Some, None, Ok, if◌then◌else◌}
+use Rattle.std.specs.Prelude.{◌≡◌, ℕ, List, [], ◌++◌, take, drop, slice_set, Option, Some, None, Ok, if◌then◌else◌}
 use Rattle.std.proofs.Common.{refl, ap, sym, ◌∙◌, append_assoc}
 use Rattle.std.proofs.lemmas.List.{take-append-drop}
 use Rattle.ch_base.specs.declared.address.Address.{Address}
-use Rattle.ch_link.specs.declared.LinkState.{LinkState}
 use Rattle.ch_model.specs.declared.name.End.{End}
 use Rattle.ch_model.specs.declared.name.End.TheVariants.{O, T}
-use Rattle.ch_model.specs.Stages.{Stage, Open, is_open}
+use Rattle.ch_model.specs.Stages.{Stage, is_open}
 use Rattle.ch_model.specs.HostState.{Link, Socket, HostState}
-use Rattle.ch_model.specs.HostSteps.{Stepped, still, is_socket, with_socket}
+use Rattle.ch_model.specs.HostSteps.{Stepped, still, with_socket}
 use Rattle.ch_model.specs.Host.{keeps, host_on}
-use Rattle.ch_model.specs.WorldState.{Cell, WorldEnd, WorldSocket, World}
+use Rattle.ch_model.specs.WorldState.{Cell, WorldSocket, World}
 use Rattle.ch_model.specs.WorldSockets as world
 use Rattle.ch_model.specs.WorldSockets.{end_of, with_end}
-use Rattle.ch_race.specs.Pair as pair
 use Rattle.ch_race.specs.Pair.{Side, other, Sock, Pair, put, point}
-use Rattle.ch_laws_race.specs.Scene.{Party, Scene, hosts_of, host_of, link_of, done_by}
+use Rattle.ch_laws_race.specs.Scene.{Scene, hosts_of, host_of, link_of, done_by}
 use Rattle.ch_laws_race.specs.View.{Reader, reader_of, reader_at, whole_items, seen, view}
-use Rattle.ch_laws_race.specs.Sound.{Acts, HasEnd, first_of}
+use Rattle.ch_laws_race.specs.Sound.{first_of}
 use Rattle.ch_laws_race.specs.Arrivals.{IsSeenFrom, Feeds, fed_in, hears_fed}
 use Rattle.ch_laws_race.proofs.Keys.{socket_kept}
 use Rattle.ch_laws_race.proofs.Sockets.{Alike, alike_self, alike_with, end_changed}

@@ -1,5 +1,5 @@
 -- A socket that is joined by its opener, one that has come to its target, and bytes that are fed.
-use Rattle.std.specs.Prelude.{◌≡◌, ℕ, ◌+◌, ◌*◌, Bool, true, false, List, take, drop, find, slice_get, Option, Some, None, Ok}
+use Rattle.std.specs.Prelude.{◌≡◌, ℕ, ◌+◌, ◌*◌, true, false, List, take, drop, find, slice_get, Some, None, Ok}
 use Rattle.std.specs.List.{list_any}
 use Rattle.ch_wire.specs.declared.request.Request.{Request}
 use Rattle.ch_reader.specs.declared.item.Expected.TheVariants as expected

@@ -7,8 +7,6 @@ use Rattle.ch_wire.specs.Spelling.{request_spelling}
 use Rattle.ch_wire.specs.declared.request.Request.{Request}
 use Rattle.ch_reader.specs.declared.item.Expected.{Expected}
 use Rattle.ch_reader.specs.declared.item.Expected.TheVariants as expected
-use Rattle.ch_reader.specs.declared.item.Item.{Item}
-use Rattle.ch_reader.specs.Items.{item_spelling}
 use Rattle.ch_light.specs.Ids.{opened}
 use Rattle.ch_link.specs.declared.LinkState.{LinkState}
 use Rattle.ch_link.specs.declared.LinkState.TheVariants as states
