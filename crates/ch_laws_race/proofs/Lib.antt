@@ -23,3 +23,4 @@ pub mod Joined
 pub mod Come
 pub mod Apart
 pub mod Fed
+pub mod Calls

@@ -9,3 +9,4 @@ pub mod Ends
 pub mod Asks
 pub mod Arrivals
 pub mod Rows
+pub mod Calls

@@ -10,7 +10,7 @@ ghost use Rattle.ch_model.specs.HostState.{Link, Socket};
 ghost use Rattle.ch_model.specs.declared.step.Weight.{Weight};
 ghost use Rattle.ch_wire.specs.declared.frame.Frame.{Frame};
 ghost use Rattle.ch_model.specs.WorldState.{Cell, WorldSocket};
-ghost use Rattle.ch_race.specs.Pair.{Side, Lesser, Greater};
+ghost use Rattle.ch_race.specs.Pair.{Side, Lesser, Greater, other};
 ghost use Rattle.ch_laws_race.specs.Scene.{Scene};
 ghost use Rattle.ch_laws_race.specs.Reading.{IsSeen, read_at, reads_front};
 ghost use Rattle.ch_laws_race.specs.Frames.{ReadsProbe, ReadsAck, ReadsClosed, ReadsPayload, ReadsClose, ReadsOpen};
@@ -20,7 +20,9 @@ ghost use Rattle.ch_laws_race.specs.Requests.{ReadsWhileShut, ReadsWhileFree, Re
 ghost use Rattle.ch_laws_race.specs.Asks.{AsksUp, AsksWaiting, AsksIdle, asks_link};
 ghost use Rattle.ch_laws_race.specs.Arrivals.{IsSeenFrom, Joins, joined_in, hears_joined, Comes, accepting, come_in, hears_come, Feeds, fed_in, hears_fed};
 ghost use Rattle.ch_laws_race.specs.Ends.{InputEndsUp, InputEndsDialing, InputEndsUnnamed, end_at, input_ends};
-ghost use Rattle.ch_laws_race.specs.Scene.{link_of};
+ghost use Rattle.ch_laws_race.specs.Calls.{PutsWaiting, puts_frame, IsOfLink, Connects, Sends, Closes};
+ghost use Rattle.ch_model.specs.HostCalls.{host_connect, host_send, host_close};
+ghost use Rattle.ch_laws_race.specs.Scene.{host_of, link_of};
 ghost use Rattle.ch_race.specs.Moves.{Read_o, Read_t, Say, Want, Join, Come};
 ghost use Rattle.ch_wire.specs.declared.answer.Answer.TheVariants as answers;
 ghost use Rattle.ch_wire.specs.declared.answer.Answer.TheVariants.{Crossed, Invalid};
@@ -142,15 +144,30 @@ pub fn input_ends_elsewhere()
         → IsSeen scene x cell (input_ends scene x known) (end_at e i ∷ []) }
 {}
 
-/// A frame of a connection that is put while the link is up is written at once: the node says a payload.
-pub fn frame_is_said()
-    ensures { (scene : Scene) (x : Side) (cell : Cell × ℕ) (e : End) (i : ℕ) (socket : WorldSocket) (known : Socket) (item : Frame × Weight) (link : Link) (probed : Bool) → AsksUp scene x cell e i socket known item link probed
-        → IsSeen scene x cell (asks_link scene x item link) (Say x ∷ []) }
+/// What an endpoint calls for a connection to the other node is that a frame is put on its link: an opening or a payload, and
+/// the link wants a socket; or a close.
+pub fn calls_are_of_the_link()
+    ensures connect { (scene : Scene) (x : Side) (conn : ℕ) (given : ℕ × List Connection) → Connects scene x conn given
+        → IsOfLink scene x (host_connect (host_of scene x) (scene.party x).address.id (scene.party (other x)).address conn) (asks_link scene x (frames.Created given.0, Free) (record (link_of scene x) { given = given.1 })) (record (link_of scene x) { given = given.1 }) }
+    ensures send { (scene : Scene) (x : Side) (conn : ℕ) (payload : List ℕ) (weight : Weight) (id : ℕ) → Sends scene x conn payload weight id
+        → IsOfLink scene x (host_send (host_of scene x) (scene.party x).address.id conn payload weight) (asks_link scene x (frames.Data id payload, weight) (link_of scene x)) (link_of scene x) }
+    ensures close { (scene : Scene) (x : Side) (conn : ℕ) (closed : ℕ × List Connection) → Closes scene x conn closed
+        → IsOfLink scene x (host_close (host_of scene x) (scene.party x).address.id conn) (puts_frame scene x (frames.Closed closed.0, Free) (record (link_of scene x) { given = closed.1 })) (record (link_of scene x) { given = closed.1 }) }
 {}
 
-/// A frame that is put while the link dials or awaits the other waits, and nothing is seen.
+/// A frame of a connection that is put while the link is up is written at once: the node says a payload.
+pub fn frame_is_said()
+    ensures asked { (scene : Scene) (x : Side) (cell : Cell × ℕ) (e : End) (i : ℕ) (socket : WorldSocket) (known : Socket) (item : Frame × Weight) (link : Link) (probed : Bool) → AsksUp scene x cell e i socket known item link probed
+        → IsSeen scene x cell (asks_link scene x item link) (Say x ∷ []) }
+    ensures alone { (scene : Scene) (x : Side) (cell : Cell × ℕ) (e : End) (i : ℕ) (socket : WorldSocket) (known : Socket) (item : Frame × Weight) (link : Link) (probed : Bool) → AsksUp scene x cell e i socket known item link probed
+        → IsSeen scene x cell (puts_frame scene x item link) (Say x ∷ []) }
+{}
+
+/// A frame that is put while the link dials or awaits the other waits, and nothing is seen; where no socket is wanted, also
+/// while it is idle.
 pub fn frame_waits()
-    ensures { (scene : Scene) (x : Side) (cell : Cell × ℕ) (item : Frame × Weight) (link : Link) → AsksWaiting scene x cell link → IsSeen scene x cell (asks_link scene x item link) [] }
+    ensures asked { (scene : Scene) (x : Side) (cell : Cell × ℕ) (item : Frame × Weight) (link : Link) → AsksWaiting scene x cell link → IsSeen scene x cell (asks_link scene x item link) [] }
+    ensures alone { (scene : Scene) (x : Side) (cell : Cell × ℕ) (item : Frame × Weight) (link : Link) → PutsWaiting scene x cell link → IsSeen scene x cell (puts_frame scene x item link) [] }
 {}
 
 /// A frame that is put while the link is idle waits, and the node dials the world's next socket.
@@ -198,6 +215,10 @@ pub fn scenes()
     ensures end_while_dialing { InputEndsDialing (left_with (Dialing 0) expected.Answer) Lesser (cell_of Lesser (left_with (Dialing 0) expected.Answer)) O 0 (dialed_by Lesser Open Ended) (known_as Lesser 0 Open (Some expected.Answer) []) }
     ensures end_elsewhere { InputEndsUnnamed stale Lesser (cell_of Lesser stale) T 0 (dialed_by Greater Ended Open) (known_as Lesser 1 Open None []) }
     ensures said { AsksUp (up_with false []) Lesser (cell_of Lesser (up_with false [])) O 0 (dialed_by Lesser Open Open) (known_as Lesser 0 Open (Some expected.Frame) []) (frames.Created 1025, Free) (link_of (up_with false []) Lesser) false }
+    ensures connect { Connects at_first Lesser 2 (1025, opened 0 ∷ opened 2 ∷ []) }
+    ensures send { Sends (up_with false []) Lesser 0 [] Free 1024 }
+    ensures shuts { Closes (up_with false []) Lesser 0 (1024, closed 0 ∷ []) }
+    ensures puts { PutsWaiting at_first Lesser (cell_of Lesser at_first) (link_of at_first Lesser) }
     ensures waits { AsksWaiting just_dialed Lesser (cell_of Lesser just_dialed) (link_of just_dialed Lesser) }
     ensures dials { AsksIdle at_first Lesser (cell_of Lesser at_first) (link_of at_first Lesser) }
     ensures fed { Feeds (up_with false []) Lesser (cell_of Lesser (up_with false [])) O 0 (dialed_by Lesser Open Open) (known_as Lesser 0 Open (Some expected.Frame) []) }

@@ -1,18 +1,26 @@
-use Rattle.std.specs.Prelude.{◌≡◌, ℕ, Bool, true, false, List, [], ◌∷◌, ◌++◌, find, Some}
+use Rattle.std.specs.Prelude.{◌≡◌, ◌<◌, ◌≤◌, ℕ, ◌==◌, nat_eq, Bool, true, false, List, [], ◌∷◌, ◌++◌, find, Option, Some, None}
 use Rattle.std.specs.List.{list_any}
 use Rattle.std.proofs.Common.{refl, ap, sym, ◌∙◌, subst, arith, inl, inr}
 use Rattle.std.proofs.lemmas.List.{append-nil}
 use Rattle.std.specs.Fmt.{digits}
+use Rattle.ch_wire.specs.Spelling.{request_spelling, answer_spelling, frame_spelling}
+use Rattle.ch_wire.specs.declared.answer.Answer.TheVariants as answers
+use Rattle.ch_wire.specs.declared.frame.Frame.TheVariants as frames
+use Rattle.ch_wire.specs.declared.request.Request.{Request}
 use Rattle.ch_wire.specs.Spelling.{IsRequest}
 use Rattle.ch_reader.specs.declared.item.Expected.{Expected}
 use Rattle.ch_reader.specs.declared.item.Expected.TheVariants as expected
 use Rattle.ch_reader.specs.declared.item.Item.{Item}
+use Rattle.ch_reader.specs.declared.item.Item.TheVariants as items
 use Rattle.ch_reader.specs.Items.{item_spelling, MayStand}
 use Rattle.ch_reader.specs.Streams.{IsStreamFrom}
-use Rattle.ch_light.specs.Ids.{conn_of, closed_of, created_of}
+use Rattle.ch_light.specs.Ids.{conn_of, closed_of, created_of, id_of, give_of, close_of}
 use Rattle.ch_link.specs.Sockets.{names}
+use Rattle.ch_link.specs.declared.LinkState.{LinkState}
+use Rattle.ch_link.specs.declared.LinkState.TheVariants.{Idle, Dialing, Up}
 use Rattle.ch_watch.specs.Same.{same_node}
 use Rattle.ch_model.specs.declared.name.End.{End}
+use Rattle.ch_model.specs.declared.name.End.TheVariants.{O, T}
 use Rattle.ch_model.specs.Stages.{Open}
 use Rattle.ch_model.specs.HostState.{Link, Socket, HostState}
 use Rattle.ch_model.specs.HostSteps.{is_socket}
@@ -21,9 +29,9 @@ use Rattle.ch_model.specs.WorldSockets.{end_of}
 use Rattle.ch_race.specs.Pair.{Side, Lesser, Greater}
 use Rattle.ch_laws_race.specs.Scene.{Scene, host_of, link_of}
 use Rattle.ch_laws_race.specs.View.{has_end}
-use Rattle.ch_laws_race.specs.Sound.{Acts, HasEnd}
+use Rattle.ch_laws_race.specs.Sound.{Acts, HasEnd, HasPlace}
 use Rattle.ch_laws_race.specs.Reading.{Reads}
-use Rattle.ch_laws_race.specs.Rows.{all_apart, host_with, cell_with, scene_with, request_of, just_dialed}
+use Rattle.ch_laws_race.specs.Rows.{all_apart, host_with, cell_with, scene_with, known_as, request_of, just_dialed}
 use Rattle.ch_laws_race.proofs.Sockets.{same_place}
 use Rattle.ch_laws_race.proofs.Socks.{nothing_left}
 use Rattle.ch_laws_race.proofs.Apart.{apart_by}
@@ -152,6 +160,22 @@ returns-clause-end_elsewhere z = record { input = record { acts = lesser_acts _ 
 pub returns-clause-said : goal.returns-clause-said
 unfolding same_node
 returns-clause-said z = record { acts = lesser_acts _ _ _ _ _ refl; has = record { at = refl; end = refl; between = refl; opener = refl; target = refl }; kept = refl; renewed = record { end = refl; peer = refl; state = refl }; up = refl; payload = refl; way = λ h. record { items = []; whole = refl; each = tt; next = omega arith } }
+
+pub returns-clause-connect : goal.returns-clause-connect
+unfolding same_node give_of
+returns-clause-connect z = record { opened = refl; gives = refl }
+
+pub returns-clause-send : goal.returns-clause-send
+unfolding same_node id_of
+returns-clause-send z = record { found = refl; short = refl; room = refl; given = refl }
+
+pub returns-clause-shuts : goal.returns-clause-shuts
+unfolding same_node id_of close_of
+returns-clause-shuts z = record { found = refl; closes = refl }
+
+pub returns-clause-puts : goal.returns-clause-puts
+unfolding same_node
+returns-clause-puts z = record { acts = lesser_acts _ _ _ _ _ refl; renewed = record { end = refl; peer = refl; state = refl }; down = refl }
 
 pub returns-clause-waits : goal.returns-clause-waits
 unfolding same_node
