@@ -24,3 +24,4 @@ pub mod Come
 pub mod Apart
 pub mod Fed
 pub mod Calls
+pub mod Happens

@@ -10,3 +10,4 @@ pub mod Asks
 pub mod Arrivals
 pub mod Rows
 pub mod Calls
+pub mod Happenings

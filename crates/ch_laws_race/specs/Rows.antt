@@ -3,7 +3,7 @@ use Rattle.std.specs.Prelude.{ℕ, Bool, true, false, not, ◌&&◌, ◌||◌, �
 use Rattle.ch_base.specs.declared.address.Address.{Address}
 use Rattle.ch_wire.specs.declared.frame.Frame.{Frame}
 use Rattle.ch_wire.specs.declared.frame.Frame.TheVariants as frames
-use Rattle.ch_wire.specs.Spelling.{request_spelling}
+use Rattle.ch_wire.specs.Spelling.{request_spelling, frame_spelling}
 use Rattle.ch_wire.specs.declared.request.Request.{Request}
 use Rattle.ch_reader.specs.declared.item.Expected.{Expected}
 use Rattle.ch_reader.specs.declared.item.Expected.TheVariants as expected
@@ -160,6 +160,13 @@ at_first = scene_with (host_with Lesser true (link_in Lesser states.Idle [] ∷ 
 -- The lesser node has dialed, and nothing more has happened.
 abbrev pub just_dialed : Scene
 just_dialed = scene_with (host_with Lesser true (link_in Lesser (states.Dialing 0) [] ∷ []) (known_as Lesser 0 Pending (Some expected.Answer) [] ∷ [])) (host_with Greater true [] []) (dialing_by Lesser Pending ∷ [])
+
+-- A probe stands unread in the world at the lesser node's end, where both are up.
+abbrev pub half_probe : WorldSocket
+half_probe = record (dialed_by Lesser Open Open) { o = record (end_as Lesser (Some 0) Open) { unread = frame_spelling frames.Probe; places = None ∷ [] } }
+
+abbrev pub half_fed : Scene
+half_fed = record (up_with false []) { world = record (up_with false []).world { sockets = half_probe ∷ [] } }
 
 -- the cell of a node in a scene of two hosts
 abbrev pub cell_of : Side → Scene → Cell × ℕ

@@ -22,6 +22,8 @@ ghost use Rattle.ch_laws_race.specs.Arrivals.{IsSeenFrom, Joins, joined_in, hear
 ghost use Rattle.ch_laws_race.specs.Ends.{InputEndsUp, InputEndsDialing, InputEndsUnnamed, end_at, input_ends};
 ghost use Rattle.ch_laws_race.specs.Calls.{PutsWaiting, puts_frame, IsOfLink, Connects, Sends, Closes};
 ghost use Rattle.ch_model.specs.HostCalls.{host_connect, host_send, host_close};
+ghost use Rattle.ch_laws_race.specs.Happenings.{IsAll, IsHappening, HandsSome};
+ghost use Rattle.ch_model.specs.WorldHappenings.{joins, comes, feeds};
 ghost use Rattle.ch_laws_race.specs.Scene.{host_of, link_of};
 ghost use Rattle.ch_race.specs.Moves.{Read_o, Read_t, Say, Want, Join, Come};
 ghost use Rattle.ch_wire.specs.declared.answer.Answer.TheVariants as answers;
@@ -34,7 +36,7 @@ ghost use Rattle.ch_link.specs.declared.LinkState.TheVariants.{Idle, Dialing, Up
 ghost use Rattle.ch_model.specs.declared.name.End.TheVariants.{O, T};
 ghost use Rattle.ch_model.specs.declared.step.Weight.TheVariants.{Free};
 ghost use Rattle.ch_model.specs.Stages.{Pending, Open, Ended};
-ghost use Rattle.ch_laws_race.specs.Rows.{up_with, dials_with, lesser_asked, greater_asked, left_with, stale, at_first, just_dialed, request_of, known_as, dialed_by, dialing_by, cell_of};
+ghost use Rattle.ch_laws_race.specs.Rows.{up_with, dials_with, lesser_asked, greater_asked, left_with, stale, at_first, just_dialed, half_probe, half_fed, request_of, known_as, dialed_by, dialing_by, cell_of};
 
 /// A probe that is read on the socket that the link is up on is acknowledged there, at either end.
 pub fn probe_is_read()
@@ -194,6 +196,18 @@ pub fn bytes_are_fed()
         → IsSeenFrom scene x cell (fed_in scene e count socket) (hears_fed scene x e count socket known) [] }
 {}
 
+/// A happening of the world at a socket, as a line or a settle does it, where nodes are told nothing and no whole item is left to
+/// read: a socket joins, or comes, or bytes are fed that make no item whole. What is seen of the world then is the pair after
+/// the move, or as it was.
+pub fn happenings()
+    ensures join { (scene : Scene) (x : Side) (cell : Cell × ℕ) (i : ℕ) (socket : WorldSocket) (known : Socket) → Joins scene x cell i socket known → IsAll (hears_joined scene x known)
+        → IsHappening scene (joins socket scene.world) (Join i ∷ []) }
+    ensures come { (scene : Scene) (x : Side) (cell : Cell × ℕ) (i : ℕ) (socket : WorldSocket) → Comes scene x cell i socket → IsAll (hears_come scene x cell socket)
+        → IsHappening scene (comes socket scene.world) (Come i ∷ []) }
+    ensures feed { (scene : Scene) (x : Side) (cell : Cell × ℕ) (e : End) (i count : ℕ) (socket : WorldSocket) (known : Socket) → Feeds scene x cell e i socket known → HandsSome e count socket → IsAll (hears_fed scene x e count socket known)
+        → IsHappening scene (feeds e count socket scene.world) [] }
+{}
+
 /// What the laws ask can be had: small scenes of two nodes on two hosts, one for each law.
 pub fn scenes()
     ensures probe { ReadsProbe (up_with false (frame_spelling frames.Probe)) Lesser (cell_of Lesser (up_with false (frame_spelling frames.Probe))) O 0 (dialed_by Lesser Open Open) (known_as Lesser 0 Open (Some expected.Frame) (frame_spelling frames.Probe)) false }
@@ -223,5 +237,10 @@ pub fn scenes()
     ensures dials { AsksIdle at_first Lesser (cell_of Lesser at_first) (link_of at_first Lesser) }
     ensures fed { Feeds (up_with false []) Lesser (cell_of Lesser (up_with false [])) O 0 (dialed_by Lesser Open Open) (known_as Lesser 0 Open (Some expected.Frame) []) }
     ensures joins { Joins just_dialed Lesser (cell_of Lesser just_dialed) 0 (dialing_by Lesser Pending) (known_as Lesser 0 Pending (Some expected.Answer) []) }
+    ensures joins_all { IsAll (hears_joined just_dialed Lesser (known_as Lesser 0 Pending (Some expected.Answer) [])) }
+    ensures comes_all { IsAll (hears_come just_dialed Greater (cell_of Greater just_dialed) (dialing_by Lesser Pending)) }
+    ensures part { Feeds half_fed Lesser (cell_of Lesser half_fed) O 0 half_probe (known_as Lesser 0 Open (Some expected.Frame) []) }
+    ensures some { HandsSome O 2 half_probe }
+    ensures feeds_all { IsAll (hears_fed half_fed Lesser O 2 half_probe (known_as Lesser 0 Open (Some expected.Frame) [])) }
     ensures comes { Comes just_dialed Greater (cell_of Greater just_dialed) 0 (dialing_by Lesser Pending) }
 {}

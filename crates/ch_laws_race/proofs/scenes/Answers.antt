@@ -23,6 +23,7 @@ use Rattle.ch_model.specs.declared.name.End.{End}
 use Rattle.ch_model.specs.declared.name.End.TheVariants.{O, T}
 use Rattle.ch_model.specs.Stages.{Open}
 use Rattle.ch_model.specs.HostState.{Link, Socket, HostState}
+use Rattle.ch_model.specs.Host.{host_on, host_next}
 use Rattle.ch_model.specs.HostSteps.{is_socket}
 use Rattle.ch_model.specs.WorldState.{WorldSocket}
 use Rattle.ch_model.specs.WorldSockets.{end_of}
@@ -192,6 +193,26 @@ returns-clause-fed z = record { acts = lesser_acts _ _ _ _ _ refl; has = record 
 pub returns-clause-joins : goal.returns-clause-joins
 unfolding same_node
 returns-clause-joins z = record { acts = lesser_acts _ _ _ _ _ refl; has = record { at = refl; end = refl; between = refl; opener = refl; target = refl }; waiting = refl; kept = refl; waits = refl; asks = refl; user = refl; way = λ h. record { items = []; whole = refl; each = tt; next = is_request Lesser } }
+
+pub returns-clause-joins_all : goal.returns-clause-joins_all
+unfolding host_on host_next digits
+returns-clause-joins_all z = record { steps = _; host = _; does = refl; silent = tt; apart = (refl, tt); none = refl }
+
+pub returns-clause-comes_all : goal.returns-clause-comes_all
+unfolding host_on host_next digits
+returns-clause-comes_all z = record { steps = _; host = _; does = refl; silent = tt; apart = (refl, tt); none = refl }
+
+pub returns-clause-part : goal.returns-clause-part
+unfolding same_node
+returns-clause-part z = record { acts = lesser_acts _ _ _ _ _ refl; has = record { at = refl; end = refl; between = refl; opener = refl; target = refl }; kept = refl; stands = refl }
+
+pub returns-clause-some : goal.returns-clause-some
+unfolding same_node
+returns-clause-some z = record { first = _; more = _; is = refl }
+
+pub returns-clause-feeds_all : goal.returns-clause-feeds_all
+unfolding host_on host_next digits
+returns-clause-feeds_all z = record { steps = _; host = _; does = refl; silent = tt; apart = (refl, tt); none = refl }
 
 known_of : (z : Side) (m : ℕ) → names (link_of just_dialed z).state m ≡ true → list_any (has_end (just_dialed.party z).place m) just_dialed.world.sockets ≡ true
 unfolding same_node

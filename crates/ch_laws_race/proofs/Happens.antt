@@ -1,0 +1,139 @@
+-- Happenings of the world, as moves.
+use Rattle.std.specs.Prelude.{◌≡◌, ℕ, ◌+◌, ◌*◌, Bool, true, false, List, [], ◌∷◌, ◌++◌, length, take, drop, slice_get, slice_set, Option, Some, None, Result, Ok, Err}
+use Rattle.std.proofs.Common.{refl, ap, sym, ◌∙◌, subst}
+use Rattle.std.proofs.lemmas.List.{append-nil}
+use Rattle.std.proofs.lemmas.Bool.{eqb-true, and_parts}
+use Rattle.std.proofs.lemmas.Option.{slice_get_within}
+use Rattle.ch_base.specs.declared.memory.Stop.{Stop}
+use Rattle.ch_laws_items.specs.Kept.{Apart}
+use Rattle.ch_laws_items.proofs.Cells.{none_left}
+use Rattle.ch_light.proofs.Lists.{set_here}
+use Rattle.ch_model.specs.declared.entry.Entry.{Entry}
+use Rattle.ch_model.specs.declared.entry.Entry.TheVariants as entries
+use Rattle.ch_model.specs.declared.entry.Verdict.{Verdict}
+use Rattle.ch_model.specs.declared.entry.Verdict.TheVariants as verdicts
+use Rattle.ch_model.specs.declared.local.LocalEntry.{LocalEntry}
+use Rattle.ch_model.specs.declared.local.LocalEvent.{LocalEvent}
+use Rattle.ch_model.specs.declared.local.LocalEvent.TheVariants as events
+use Rattle.ch_model.specs.declared.name.End.{End}
+use Rattle.ch_model.specs.declared.name.End.TheVariants.{O, T}
+use Rattle.ch_model.specs.declared.step.Step.{Step}
+use Rattle.ch_model.specs.declared.step.Step.TheVariants as steps
+use Rattle.ch_model.specs.declared.step.SocketEvent.{SocketEvent}
+use Rattle.ch_model.specs.declared.step.SocketEvent.TheVariants as sockets
+use Rattle.ch_model.specs.HostState.{Socket, HostState}
+use Rattle.ch_model.specs.HostSteps.{Stepped}
+use Rattle.ch_model.specs.Host.{host_on, host_next}
+use Rattle.ch_model.specs.WorldState.{Cell, WorldEnd, WorldSocket, World}
+use Rattle.ch_model.specs.WorldSockets.{end_of, opened, same_number, is_end_of, with_end_of}
+use Rattle.ch_model.specs.WorldSteps.{all_told}
+use Rattle.ch_model.specs.CellSteps.{Followed, ◌then◌, told_steps, steps_on, all_items}
+use Rattle.ch_model.specs.Cell.{answered, host_did, heard_as, cell_step}
+use Rattle.ch_model.specs.WorldHappenings.{Answered, nothing, after_entry, with_cell, cell_told, cell_hears, end_hears, mark_of, joins, comes_at, comes, hands, feeds}
+use Rattle.ch_race.specs.Pair.{Side}
+use Rattle.ch_race.specs.Moves.{Move, Join, Come}
+use Rattle.ch_laws_race.specs.Scene.{Scene, host_in, host_of}
+use Rattle.ch_laws_race.specs.View.{view}
+use Rattle.ch_laws_race.specs.Arrivals.{IsSeenFrom, Joins, joined_in, hears_joined, next_accepted, Comes, accepting, come_in, hears_come, Feeds, fed_in, hears_fed}
+use Rattle.ch_laws_race.specs.Happenings.{PostsNothing, IsAll, IsHappening, HandsSome}
+use Rattle.ch_laws_race.proofs.Sockets.{end_changed}
+use Rattle.ch_laws_race.proofs.Joined.{joins_it}
+use Rattle.ch_laws_race.proofs.Come.{comes_it}
+use Rattle.ch_laws_race.proofs.Fed.{fed_it}
+
+-- ---- a cell whose nodes are told nothing
+
+silent_steps : (done : List Step) (cell : Cell) → PostsNothing done → steps_on done cell ≡ Ok (told_steps done, cell)
+silent_steps [] cell silent = refl
+silent_steps (steps.Post end event ∷ rest) cell silent = absurd silent
+silent_steps (steps.Dial sock end peer ∷ rest) cell silent = ap (λ (r : Followed). Ok (told_steps (steps.Dial sock end peer ∷ []), cell) then (λ c. r)) (silent_steps rest cell silent)
+silent_steps (steps.Read sock ∷ rest) cell silent = ap (λ (r : Followed). Ok (told_steps (steps.Read sock ∷ []), cell) then (λ c. r)) (silent_steps rest cell silent)
+silent_steps (steps.Write sock bytes said ∷ rest) cell silent = ap (λ (r : Followed). Ok (told_steps (steps.Write sock bytes said ∷ []), cell) then (λ c. r)) (silent_steps rest cell silent)
+silent_steps (steps.Up sock ∷ rest) cell silent = ap (λ (r : Followed). Ok (told_steps (steps.Up sock ∷ []), cell) then (λ c. r)) (silent_steps rest cell silent)
+silent_steps (steps.Down sock ∷ rest) cell silent = ap (λ (r : Followed). Ok (told_steps (steps.Down sock ∷ []), cell) then (λ c. r)) (silent_steps rest cell silent)
+silent_steps (steps.Left sock ∷ rest) cell silent = ap (λ (r : Followed). Ok (told_steps (steps.Left sock ∷ []), cell) then (λ c. r)) (silent_steps rest cell silent)
+silent_steps (steps.Broke end peer why ∷ rest) cell silent = ap (λ (r : Followed). Ok (told_steps (steps.Broke end peer why ∷ []), cell) then (λ c. r)) (silent_steps rest cell silent)
+
+-- that is all that follows
+nothing_more : (done : List Step) (cell : Cell) → PostsNothing done → Apart cell.host.sockets → host_next cell.host ≡ Ok (None, cell.host) → (steps_on done cell then all_items) ≡ Ok (told_steps done, cell)
+nothing_more done cell silent apart none = ap (λ (r : Followed). r then all_items) (silent_steps done cell silent)
+    ∙ ap (λ (r : Followed). Ok (told_steps done, cell) then (λ c. r)) (none_left cell cell.host apart none)
+    ∙ ap (λ (z : List LocalEntry). Ok (z, cell)) (append-nil (told_steps done))
+
+gives : {X : Type 0} (x y : X) → ◌≡◌ {A = Result X Stop} (Ok x) (Ok y) → x ≡ y
+gives {X = X} x y h = ap {A = Result X Stop} {B = X} (λ r. elim r [ Ok z ↦ z | Err e ↦ x ]) h
+
+-- an event whose steps are all that its cell does
+happens : (scene : Scene) (x : Side) (cell : Cell × ℕ) (between : World) (done : Stepped) (moves : List Move) (event : LocalEvent) (verdict : Verdict) → IsSeenFrom scene x cell between done moves → IsAll done
+    → cell_step cell.0 event ≡ host_did verdict cell.0 done → slice_get between.cells (scene.party x).place ≡ Some cell → IsHappening scene (cell_hears (scene.party x).place event between) moves
+happens scene x cell between done moves event verdict seen all is there = record {
+  verdict = verdict;
+  entries = (all_told (scene.party x).place (now seen.host) (told_steps seen.steps) (with_cell (scene.party x).place (now seen.host, cell.1) between)).0;
+  now = (all_told (scene.party x).place (now seen.host) (told_steps seen.steps) (with_cell (scene.party x).place (now seen.host, cell.1) between)).1;
+  does = ap (λ (o : Option (Cell × ℕ)). elim o as (λ o. Answered) [ None ↦ nothing between | Some c ↦ cell_told (scene.party x).place c between (cell_step c.0 event) ]) there
+      ∙ ap (cell_told (scene.party x).place cell between) (is ∙ ap (host_did verdict cell.0) seen.does
+      ∙ ap (answered verdict) (nothing_more seen.steps (record (cell.0) { host = seen.host }) (subst PostsNothing (ap (λ (r : List Step × HostState). r.0) same) all.silent)
+      (subst (λ (h : HostState). Apart h.sockets) (ap (λ (r : List Step × HostState). r.1) same) all.apart)
+      (subst (λ (h : HostState). host_next h ≡ Ok (None, h)) (ap (λ (r : List Step × HostState). r.1) same) all.none)));
+  allowed = seen.allowed;
+  seen = seen.seen;
+} where
+  now : HostState → Cell
+  now host = record (cell.0) { host = host }
+
+  same : ◌≡◌ {A = List Step × HostState} (all.steps, all.host) (seen.steps, seen.host)
+  same = gives (all.steps, all.host) (seen.steps, seen.host) (sym all.does ∙ seen.does)
+
+-- an entry of the world's own comes before
+told_first : (scene : Scene) (answered : Answered) (moves : List Move) (entry : Entry) → IsHappening scene answered moves → IsHappening scene (after_entry entry answered) moves
+told_first scene answered moves entry h = record { verdict = h.verdict; entries = entry ∷ h.entries; now = h.now; does = ap (after_entry entry) h.does; allowed = h.allowed; seen = h.seen }
+
+-- ---- ends
+
+some_of : (m : Option ℕ) (n : ℕ) → same_number m n ≡ true → m ≡ Some n
+some_of None n q = absurd (clash q) where
+  clash : false ≡ true → ⊥
+  clash q = cc
+some_of (Some m) n q = ap (λ (z : ℕ). Some z) (eqb-true m n q)
+
+hears_there : (place number : ℕ) (end : WorldEnd) (event : ℕ → SocketEvent) (world : World) → is_end_of place number end ≡ true → end_hears end event world ≡ cell_hears place (events.Socket (event number)) world
+hears_there place number end event world h =
+    let parts = and_parts (same_number end.cell place) (same_number end.number number) h in
+    ap (λ (z : Option ℕ). end_hears (record end { cell = z }) event world) (some_of end.cell place parts.0)
+    ∙ ap (λ (z : Option ℕ). end_hears (record end { cell = Some place; number = z }) event world) (some_of end.number number parts.1)
+
+-- ---- the laws
+
+pub join_happens : (scene : Scene) (x : Side) (cell : Cell × ℕ) (i : ℕ) (s : WorldSocket) (known : Socket) → Joins scene x cell i s known → IsAll (hears_joined scene x known) → IsHappening scene (joins s scene.world) (Join i ∷ [])
+join_happens scene x cell i s known h all = told_first scene (end_hears s.o (λ sock. sockets.Joined sock) (joined_in scene s)) (Join i ∷ []) (entries.Joined s.name)
+    (subst (λ (a : Answered). IsHappening scene a (Join i ∷ [])) (sym (hears_there (scene.party x).place known.number s.o (λ sock. sockets.Joined sock) (joined_in scene s) h.has.end))
+    (happens scene x cell (joined_in scene s) (hears_joined scene x known) (Join i ∷ []) (events.Socket (sockets.Joined known.number)) (heard_as cell.0.host (sockets.Joined known.number)) (joins_it scene x cell i s known h) all
+    (ap (λ (host : HostState). host_did (heard_as cell.0.host (sockets.Joined known.number)) cell.0 (host_on host (sockets.Joined known.number))) (sym (ap host_in h.acts.there)))
+    (ap (λ (w : World). slice_get w.cells (scene.party x).place) (end_changed scene.world i s O opened h.acts.apart h.has.at) ∙ h.acts.there)))
+
+pub feed_happens : (scene : Scene) (x : Side) (cell : Cell × ℕ) (e : End) (i count : ℕ) (s : WorldSocket) (known : Socket) → Feeds scene x cell e i s known → HandsSome e count s → IsAll (hears_fed scene x e count s known)
+    → IsHappening scene (feeds e count s scene.world) []
+feed_happens scene x cell e i count s known h some all = told_first scene (hands Bytes (end_of e s) (fed_in scene e count s)) [] (entries.Fed s.name e (length Bytes))
+    (subst (λ (a : Answered). IsHappening scene a []) (sym (hands_some Bytes some.first some.more some.is ∙ hears_there (scene.party x).place known.number (end_of e s) (λ sock. sockets.Fed sock Bytes) (fed_in scene e count s) h.has.end))
+    (happens scene x cell (fed_in scene e count s) (hears_fed scene x e count s known) [] (events.Socket (sockets.Fed known.number Bytes)) (heard_as cell.0.host (sockets.Fed known.number Bytes)) (fed_it scene x cell e i count s known h) all
+    (ap (λ (host : HostState). host_did (heard_as cell.0.host (sockets.Fed known.number Bytes)) cell.0 (host_on host (sockets.Fed known.number Bytes))) (sym (ap host_in h.acts.there)))
+    (ap (λ (w : World). slice_get w.cells (scene.party x).place) (end_changed scene.world i s e (λ end. record end { unread = drop count end.unread }) h.acts.apart h.has.at) ∙ h.acts.there))) where
+      Bytes : List ℕ
+      Bytes = take count (end_of e s).unread
+
+      hands_some : (bytes : List ℕ) (b : ℕ) (more : List ℕ) → bytes ≡ b ∷ more → hands bytes (end_of e s) (fed_in scene e count s) ≡ end_hears (end_of e s) (λ sock. sockets.Fed sock bytes) (fed_in scene e count s)
+      hands_some bytes b more is = ap (λ (z : List ℕ). hands z (end_of e s) (fed_in scene e count s)) is ∙ ap (λ (z : List ℕ). end_hears (end_of e s) (λ sock. sockets.Fed sock z) (fed_in scene e count s)) (sym is)
+
+pub come_happens : (scene : Scene) (x : Side) (cell : Cell × ℕ) (i : ℕ) (s : WorldSocket) → Comes scene x cell i s → IsAll (hears_come scene x cell s) → IsHappening scene (comes s scene.world) (Come i ∷ [])
+come_happens scene x cell i s h all =
+    subst (λ (a : Answered). IsHappening scene a (Come i ∷ []))
+    (sym (ap (λ (c : Option ℕ). elim c as (λ c. Answered) [ None ↦ nothing scene.world | Some place ↦ after_entry (entries.Came s.name) (comes_at place s scene.world) ]) h.cell_is
+    ∙ ap (λ (c : Option (Cell × ℕ)). after_entry (entries.Came s.name) (elim c as (λ c. Answered) [
+      | None ↦ nothing scene.world
+      | Some c ↦ cell_hears (scene.party x).place (events.Came (mark_of s.o) (2 * c.1 + 1) s.from_host) (with_end_of s.name T (λ end. record (opened end) { number = Some (2 * c.1 + 1) }) (with_cell (scene.party x).place (c.0, c.1 + 1) scene.world))
+    ])) h.acts.there))
+    (told_first scene (cell_hears (scene.party x).place (events.Came (mark_of s.o) (next_accepted cell) s.from_host) (come_in scene x cell s)) (Come i ∷ []) (entries.Came s.name)
+    (happens scene x (accepting cell) (come_in scene x cell s) (hears_come scene x cell s) (Come i ∷ []) (events.Came (mark_of s.o) (next_accepted cell) s.from_host) verdicts.Ok (comes_it scene x cell i s h) all
+    (ap (λ (host : HostState). host_did verdicts.Ok cell.0 (host_on host (sockets.Came (next_accepted cell) s.from_host))) (sym (ap host_in h.acts.there)))
+    (ap (λ (w : World). slice_get w.cells (scene.party x).place) (end_changed (with_cell (scene.party x).place (accepting cell) scene.world) i s T (λ end. record (opened end) { number = Some (next_accepted cell) }) h.acts.apart h.at)
+    ∙ set_here scene.world.cells (scene.party x).place (accepting cell) (slice_get_within scene.world.cells (scene.party x).place cell h.acts.there))))
