@@ -1,12 +1,12 @@
 -- Happenings of the world, as moves.
-use Rattle.std.specs.Prelude.{◌≡◌, ℕ, ◌+◌, ◌*◌, Bool, true, false, List, [], ◌∷◌, ◌++◌, length, take, drop, slice_get, slice_set, Option, Some, None, Result, Ok, Err}
+use Rattle.std.specs.Prelude.{◌≡◌, ℕ, ◌+◌, ◌*◌, Bool, true, false, List, [], ◌∷◌, ◌++◌, length, take, drop, slice_get, slice_set, Option, Some, None, Result, Ok, Err, if◌then◌else◌}
 use Rattle.std.proofs.Common.{refl, ap, sym, ◌∙◌, subst}
 use Rattle.std.proofs.lemmas.List.{append-nil}
 use Rattle.std.proofs.lemmas.Bool.{eqb-true, and_parts}
 use Rattle.std.proofs.lemmas.Option.{slice_get_within}
 use Rattle.ch_base.specs.declared.memory.Stop.{Stop}
 use Rattle.ch_laws_items.specs.Kept.{Apart}
-use Rattle.ch_laws_items.proofs.Cells.{none_left}
+use Rattle.ch_laws_items.proofs.Cells.{none_left, one_first}
 use Rattle.ch_light.proofs.Lists.{set_here}
 use Rattle.ch_model.specs.declared.entry.Entry.{Entry}
 use Rattle.ch_model.specs.declared.entry.Entry.TheVariants as entries
@@ -22,8 +22,9 @@ use Rattle.ch_model.specs.declared.step.Step.TheVariants as steps
 use Rattle.ch_model.specs.declared.step.SocketEvent.{SocketEvent}
 use Rattle.ch_model.specs.declared.step.SocketEvent.TheVariants as sockets
 use Rattle.ch_model.specs.HostState.{Socket, HostState}
-use Rattle.ch_model.specs.HostSteps.{Stepped}
-use Rattle.ch_model.specs.Host.{host_on, host_next}
+use Rattle.ch_model.specs.HostSteps.{Stepped, still}
+use Rattle.ch_model.specs.Stages.{Stage, is_open}
+use Rattle.ch_model.specs.Host.{keeps, front_of, handles, some_steps, host_on, host_next}
 use Rattle.ch_model.specs.WorldState.{Cell, WorldEnd, WorldSocket, World}
 use Rattle.ch_model.specs.WorldSockets.{end_of, opened, same_number, is_end_of, with_end_of}
 use Rattle.ch_model.specs.WorldSteps.{all_told}
@@ -31,12 +32,13 @@ use Rattle.ch_model.specs.CellSteps.{Followed, ◌then◌, told_steps, steps_on,
 use Rattle.ch_model.specs.Cell.{answered, host_did, heard_as, cell_step}
 use Rattle.ch_model.specs.WorldHappenings.{Answered, nothing, after_entry, with_cell, cell_told, cell_hears, end_hears, mark_of, joins, comes_at, comes, hands, feeds}
 use Rattle.ch_race.specs.Pair.{Side}
-use Rattle.ch_race.specs.Moves.{Move, Join, Come}
-use Rattle.ch_laws_race.specs.Scene.{Scene, host_in, host_of}
+use Rattle.ch_race.specs.Moves.{Move, Join, Come, AllAllowed, run}
+use Rattle.ch_laws_race.specs.Scene.{Scene, host_in, hosts_of, host_of, done_by}
 use Rattle.ch_laws_race.specs.View.{view}
 use Rattle.ch_laws_race.specs.Arrivals.{IsSeenFrom, Joins, joined_in, hears_joined, next_accepted, Comes, accepting, come_in, hears_come, Feeds, fed_in, hears_fed}
-use Rattle.ch_laws_race.specs.Happenings.{PostsNothing, IsAll, IsHappening, HandsSome}
-use Rattle.ch_laws_race.proofs.Sockets.{end_changed}
+use Rattle.ch_laws_race.specs.Happenings.{PostsNothing, IsAll, IsHappening, HandsSome, fed_record, fed_host, fed_scene, FeedsOne}
+use Rattle.ch_laws_race.proofs.Sockets.{end_changed, set_set}
+use Rattle.ch_laws_race.proofs.Views.{host_here, hosts_set}
 use Rattle.ch_laws_race.proofs.Joined.{joins_it}
 use Rattle.ch_laws_race.proofs.Come.{comes_it}
 use Rattle.ch_laws_race.proofs.Fed.{fed_it}
@@ -137,3 +139,96 @@ come_happens scene x cell i s h all =
     (ap (λ (host : HostState). host_did verdicts.Ok cell.0 (host_on host (sockets.Came (next_accepted cell) s.from_host))) (sym (ap host_in h.acts.there)))
     (ap (λ (w : World). slice_get w.cells (scene.party x).place) (end_changed (with_cell (scene.party x).place (accepting cell) scene.world) i s T (λ end. record (opened end) { number = Some (next_accepted cell) }) h.acts.apart h.at)
     ∙ set_here scene.world.cells (scene.party x).place (accepting cell) (slice_get_within scene.world.cells (scene.party x).place cell h.acts.there))))
+
+-- ---- bytes that make one item whole
+
+module _ (scene : Scene) (x : Side) (cell : Cell × ℕ) (e : End) (i count : ℕ) (s : WorldSocket) (known : Socket) (moves : List Move) (h : FeedsOne scene x cell e i count s known moves) where
+  abbrev P : ℕ
+  P = (scene.party x).place
+
+  abbrev Bytes : List ℕ
+  Bytes = take count (end_of e s).unread
+
+  abbrev Fed : Socket
+  Fed = fed_record e count s known
+
+  abbrev Host : HostState
+  Host = fed_host scene x e count s known
+
+  abbrev Between : World
+  Between = fed_in scene e count s
+
+  abbrev First : Cell
+  First = record (cell.0) { host = Host }
+
+  abbrev Last : Cell
+  Last = record (cell.0) { host = h.reads.host }
+
+  abbrev Then : Scene
+  Then = fed_scene scene x cell e count s known
+
+  abbrev Event : LocalEvent
+  Event = events.Socket (sockets.Fed known.number Bytes)
+
+  abbrev Answer : Verdict
+  Answer = heard_as cell.0.host (sockets.Fed known.number Bytes)
+
+  host_fed : host_on (host_of scene x) (sockets.Fed known.number Bytes) ≡ Ok ([], Host)
+  unfolding host_on
+  host_fed = ap (λ (o : Option Socket). elim o as (λ o. Stepped) [ None ↦ still (host_of scene x) | Some socket ↦ (if is_open socket.stage then keeps Bytes socket (host_of scene x) else still (host_of scene x)) ]) h.fed.kept
+      ∙ ap (λ (z : Stage). if is_open z then keeps Bytes known (host_of scene x) else still (host_of scene x)) h.fed.stands
+
+  host_then : host_of Then x ≡ Host
+  host_then = ap (λ (f : ℕ → HostState). f P) (hosts_set Between P cell First cell.1 cell_there) ∙ host_here P Host (hosts_of Between) where
+    cell_there : slice_get Between.cells P ≡ Some cell
+    cell_there = ap (λ (w : World). slice_get w.cells P) (end_changed scene.world i s e (λ end. record end { unread = drop count end.unread }) h.fed.acts.apart h.fed.has.at) ∙ h.fed.acts.there
+
+  next_item : host_next Host ≡ Ok (Some h.reads.steps, h.reads.host)
+  unfolding host_next
+  next_item = ap (λ (o : Option Socket). elim o as (λ o. Result (Option (List Step) × HostState) Stop) [ None ↦ Ok (None, Host) | Some socket ↦ some_steps (handles socket (front_of socket) Host) ]) h.ready
+      ∙ ap (λ (z : HostState). some_steps (handles Fed (front_of Fed) z)) (sym host_then) ∙ ap some_steps h.reads.does
+
+  same_all : ◌≡◌ {A = List Step × HostState} (h.all.steps, h.all.host) (h.reads.steps, h.reads.host)
+  same_all = gives (h.all.steps, h.all.host) (h.reads.steps, h.reads.host) (sym h.all.does ∙ h.reads.does)
+
+  all_done : all_items First ≡ Ok (told_steps h.reads.steps, Last)
+  all_done = one_first First h.reads.host h.reads.steps h.apart next_item
+      ∙ nothing_more h.reads.steps Last (subst PostsNothing (ap (λ (r : List Step × HostState). r.0) same_all) h.all.silent)
+      (subst (λ (z : HostState). Apart z.sockets) (ap (λ (r : List Step × HostState). r.1) same_all) h.all.apart)
+      (subst (λ (z : HostState). host_next z ≡ Ok (None, z)) (ap (λ (r : List Step × HostState). r.1) same_all) h.all.none)
+
+  step_is : cell_step cell.0 Event ≡ Ok ((Answer, told_steps h.reads.steps), Last)
+  step_is = ap (λ (host : HostState). host_did Answer cell.0 (host_on host (sockets.Fed known.number Bytes))) (sym (ap host_in h.fed.acts.there))
+      ∙ ap (host_did Answer cell.0) host_fed ∙ ap (λ (r : Followed). answered Answer (Ok ([], First) then (λ c. r))) all_done
+
+  cell_there : slice_get Between.cells P ≡ Some cell
+  cell_there = ap (λ (w : World). slice_get w.cells P) (end_changed scene.world i s e (λ end. record end { unread = drop count end.unread }) h.fed.acts.apart h.fed.has.at) ∙ h.fed.acts.there
+
+  abbrev Told : List Entry × World
+  Told = all_told P Last (told_steps h.reads.steps) (with_cell P (Last, cell.1) Between)
+
+  fed_view : view Then ≡ view scene
+  fed_view = ap (λ (z : HostState). view (record scene { world = done_by P cell [] z Between })) (ap (λ (r : List Step × HostState). r.1) (gives ([], Host) (quiet.steps, quiet.host) (sym host_fed ∙ quiet.does))) ∙ silent_seen where
+    quiet : IsSeenFrom scene x cell Between (hears_fed scene x e count s known) []
+    quiet = fed_it scene x cell e i count s known h.fed
+
+    silent_seen : view (record scene { world = done_by P cell [] quiet.host Between }) ≡ view scene
+    silent_seen = ap (λ (z : List Step). view (record scene { world = done_by P cell z quiet.host Between })) (ap (λ (r : List Step × HostState). r.0) (gives ([], Host) (quiet.steps, quiet.host) (sym host_fed ∙ quiet.does))) ∙ quiet.seen
+
+  heard : IsHappening scene (cell_hears P Event Between) moves
+  heard = record {
+    verdict = Answer;
+    entries = Told.0;
+    now = Told.1;
+    does = ap (λ (o : Option (Cell × ℕ)). elim o as (λ o. Answered) [ None ↦ nothing Between | Some c ↦ cell_told P c Between (cell_step c.0 Event) ]) cell_there ∙ ap (cell_told P cell Between) step_is;
+    allowed = subst (AllAllowed moves) fed_view h.reads.allowed;
+    seen = ap (λ (z : List (Cell × ℕ)). view (record scene { world = (all_told P Last (told_steps h.reads.steps) (record Between { cells = z })).1 })) (sym (set_set Between.cells P (First, cell.1) (Last, cell.1)))
+        ∙ h.reads.seen ∙ ap (run moves) fed_view;
+  }
+
+  pub item_happens : IsHappening scene (feeds e count s scene.world) moves
+  item_happens = told_first scene (hands Bytes (end_of e s) Between) moves (entries.Fed s.name e (length Bytes))
+      (subst (λ (a : Answered). IsHappening scene a moves)
+      (sym (hands_some Bytes h.some.first h.some.more h.some.is ∙ hears_there P known.number (end_of e s) (λ sock. sockets.Fed sock Bytes) Between h.fed.has.end)) heard) where
+        hands_some : (bytes : List ℕ) (b : ℕ) (more : List ℕ) → bytes ≡ b ∷ more → hands bytes (end_of e s) Between ≡ end_hears (end_of e s) (λ sock. sockets.Fed sock bytes) Between
+        hands_some bytes b more is = ap (λ (z : List ℕ). hands z (end_of e s) Between) is ∙ ap (λ (z : List ℕ). end_hears (end_of e s) (λ sock. sockets.Fed sock z) Between) (sym is)

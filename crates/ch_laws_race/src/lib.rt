@@ -22,10 +22,10 @@ ghost use Rattle.ch_laws_race.specs.Arrivals.{IsSeenFrom, Joins, joined_in, hear
 ghost use Rattle.ch_laws_race.specs.Ends.{InputEndsUp, InputEndsDialing, InputEndsUnnamed, end_at, input_ends};
 ghost use Rattle.ch_laws_race.specs.Calls.{PutsWaiting, puts_frame, IsOfLink, Connects, Sends, Closes};
 ghost use Rattle.ch_model.specs.HostCalls.{host_connect, host_send, host_close};
-ghost use Rattle.ch_laws_race.specs.Happenings.{IsAll, IsHappening, HandsSome};
+ghost use Rattle.ch_laws_race.specs.Happenings.{IsAll, IsHappening, HandsSome, FeedsOne};
 ghost use Rattle.ch_model.specs.WorldHappenings.{joins, comes, feeds};
 ghost use Rattle.ch_laws_race.specs.Scene.{host_of, link_of};
-ghost use Rattle.ch_race.specs.Moves.{Read_o, Read_t, Say, Want, Join, Come};
+ghost use Rattle.ch_race.specs.Moves.{Move, Read_o, Read_t, Say, Want, Join, Come};
 ghost use Rattle.ch_wire.specs.declared.answer.Answer.TheVariants as answers;
 ghost use Rattle.ch_wire.specs.declared.answer.Answer.TheVariants.{Crossed, Invalid};
 ghost use Rattle.ch_wire.specs.declared.frame.Frame.TheVariants as frames;
@@ -197,8 +197,8 @@ pub fn bytes_are_fed()
 {}
 
 /// A happening of the world at a socket, as a line or a settle does it, where nodes are told nothing and no whole item is left to
-/// read: a socket joins, or comes, or bytes are fed that make no item whole. What is seen of the world then is the pair after
-/// the move, or as it was.
+/// read: a socket joins, or comes, or bytes are fed that make no item whole, or one. What is seen of the world then is the pair
+/// after the moves: none where no item was whole, and else those that its reading is.
 pub fn happenings()
     ensures join { (scene : Scene) (x : Side) (cell : Cell × ℕ) (i : ℕ) (socket : WorldSocket) (known : Socket) → Joins scene x cell i socket known → IsAll (hears_joined scene x known)
         → IsHappening scene (joins socket scene.world) (Join i ∷ []) }
@@ -206,6 +206,8 @@ pub fn happenings()
         → IsHappening scene (comes socket scene.world) (Come i ∷ []) }
     ensures feed { (scene : Scene) (x : Side) (cell : Cell × ℕ) (e : End) (i count : ℕ) (socket : WorldSocket) (known : Socket) → Feeds scene x cell e i socket known → HandsSome e count socket → IsAll (hears_fed scene x e count socket known)
         → IsHappening scene (feeds e count socket scene.world) [] }
+    ensures item { (scene : Scene) (x : Side) (cell : Cell × ℕ) (e : End) (i count : ℕ) (socket : WorldSocket) (known : Socket) (moves : List Move) → FeedsOne scene x cell e i count socket known moves
+        → IsHappening scene (feeds e count socket scene.world) moves }
 {}
 
 /// What the laws ask can be had: small scenes of two nodes on two hosts, one for each law.
@@ -242,5 +244,6 @@ pub fn scenes()
     ensures part { Feeds half_fed Lesser (cell_of Lesser half_fed) O 0 half_probe (known_as Lesser 0 Open (Some expected.Frame) []) }
     ensures some { HandsSome O 2 half_probe }
     ensures feeds_all { IsAll (hears_fed half_fed Lesser O 2 half_probe (known_as Lesser 0 Open (Some expected.Frame) [])) }
+    ensures item { FeedsOne half_fed Lesser (cell_of Lesser half_fed) O 0 4 half_probe (known_as Lesser 0 Open (Some expected.Frame) []) (Read_o 0 ∷ []) }
     ensures comes { Comes just_dialed Greater (cell_of Greater just_dialed) 0 (dialing_by Lesser Pending) }
 {}

@@ -31,8 +31,12 @@ use Rattle.ch_race.specs.Pair.{Side, Lesser, Greater}
 use Rattle.ch_laws_race.specs.Scene.{Scene, host_of, link_of}
 use Rattle.ch_laws_race.specs.View.{has_end}
 use Rattle.ch_laws_race.specs.Sound.{Acts, HasEnd, HasPlace}
-use Rattle.ch_laws_race.specs.Reading.{Reads}
-use Rattle.ch_laws_race.specs.Rows.{all_apart, host_with, cell_with, scene_with, known_as, request_of, just_dialed}
+use Rattle.ch_laws_race.specs.Reading.{Reads, IsSeen, reads_front}
+use Rattle.ch_laws_race.specs.Rows.{all_apart, host_with, cell_with, scene_with, known_as, request_of, just_dialed, half_probe, half_fed, cell_of}
+use Rattle.ch_laws_race.specs.Happenings.{fed_record, fed_cell, fed_scene}
+use Rattle.ch_laws_race.proofs.Read.{probe_read}
+use Rattle.ch_link.specs.Table.{step_of}
+use Rattle.ch_race.specs.Moves.{Read_o}
 use Rattle.ch_laws_race.proofs.Sockets.{same_place}
 use Rattle.ch_laws_race.proofs.Socks.{nothing_left}
 use Rattle.ch_laws_race.proofs.Apart.{apart_by}
@@ -213,6 +217,23 @@ returns-clause-some z = record { first = _; more = _; is = refl }
 pub returns-clause-feeds_all : goal.returns-clause-feeds_all
 unfolding host_on host_next digits
 returns-clause-feeds_all z = record { steps = _; host = _; does = refl; silent = tt; apart = (refl, tt); none = refl }
+
+-- the probe in the bytes that are fed
+abbrev Empty : Socket
+Empty = known_as Lesser 0 Open (Some expected.Frame) []
+
+probe_fed : IsSeen (fed_scene half_fed Lesser (cell_of Lesser half_fed) O 4 half_probe Empty) Lesser (fed_cell half_fed Lesser (cell_of Lesser half_fed) O 4 half_probe Empty)
+    (reads_front (fed_scene half_fed Lesser (cell_of Lesser half_fed) O 4 half_probe Empty) Lesser (fed_record O 4 half_probe Empty)) (Read_o 0 ∷ [])
+unfolding same_node digits
+probe_fed = probe_read (fed_scene half_fed Lesser (cell_of Lesser half_fed) O 4 half_probe Empty) Lesser (fed_cell half_fed Lesser (cell_of Lesser half_fed) O 4 half_probe Empty) O 0
+    (record half_probe { o = record (half_probe.o) { unread = [] } }) (fed_record O 4 half_probe Empty) (items.Frame frames.Probe)
+    (record { there = refl; own = refl; order = refl; differ = λ h. one_zero h; apart = apart_by _ refl })
+    (reads_alone _ _ _ _ _ _ _ (record { at = refl; end = refl; between = refl; opener = refl; target = refl }) refl refl refl refl tt)
+    false refl refl refl (λ h. record { items = []; whole = refl; each = tt; next = tt })
+
+pub returns-clause-item : goal.returns-clause-item
+unfolding host_next digits same_node step_of
+returns-clause-item z = record { fed = record { acts = lesser_acts _ _ _ _ _ refl; has = record { at = refl; end = refl; between = refl; opener = refl; target = refl }; kept = refl; stands = refl }; some = record { first = _; more = _; is = refl }; apart = (refl, tt); ready = refl; reads = probe_fed; all = record { steps = _; host = _; does = refl; silent = tt; apart = (refl, tt); none = refl } }
 
 known_of : (z : Side) (m : ℕ) → names (link_of just_dialed z).state m ≡ true → list_any (has_end (just_dialed.party z).place m) just_dialed.world.sockets ≡ true
 unfolding same_node
