@@ -1,6 +1,6 @@
 -- What the calls of an endpoint ask of a link, and a frame that is put alone.
-use Rattle.std.specs.Prelude.{◌≡◌, ℕ, List, find, Option, Some, None, Result, Ok}
-use Rattle.std.proofs.Common.{refl, ap, sym, ◌∙◌}
+use Rattle.std.specs.Prelude.{ℕ, List, Option, Result}
+use Rattle.std.proofs.Common.{refl, ap, ◌∙◌}
 use Rattle.ch_wire.specs.declared.frame.Frame.TheVariants as frames
 use Rattle.ch_light.specs.Ids.{id_of, give_of, close_of}
 use Rattle.ch_light.specs.declared.Connection.{Connection}
@@ -10,7 +10,7 @@ use Rattle.ch_model.specs.declared.step.Weight.{Weight}
 use Rattle.ch_model.specs.declared.step.Weight.TheVariants.{Free}
 use Rattle.ch_model.specs.HostState.{Link}
 use Rattle.ch_model.specs.HostWrites.{puts}
-use Rattle.ch_model.specs.HostCalls.{◌>>=◌, stepped, of_ids, found_or, short_enough, has_room, open_endpoint, carries, puts_and_wants, host_connect, host_send, host_close}
+use Rattle.ch_model.specs.HostCalls.{◌>>=◌, stepped, of_ids, found_or, short_enough, has_room, puts_and_wants, host_connect, host_send, host_close}
 use Rattle.ch_race.specs.Pair.{Side, other}
 use Rattle.ch_laws_race.specs.Scene.{Scene, host_of, link_of}
 use Rattle.ch_laws_race.specs.Asks.{asks_link}

@@ -1,8 +1,6 @@
 -- What the calls of an endpoint ask of a link.
-use Rattle.std.specs.Prelude.{◌≡◌, ◌≢◌, ℕ, Bool, false, List, find, Option, Some, None, Result, Ok}
-use Rattle.ch_base.specs.declared.address.Address.{Address}
+use Rattle.std.specs.Prelude.{◌≡◌, ℕ, false, List, find, Some, Result, Ok}
 use Rattle.ch_wire.specs.declared.frame.Frame.{Frame}
-use Rattle.ch_wire.specs.declared.frame.Frame.TheVariants as frames
 use Rattle.ch_light.specs.Ids.{id_of, give_of, close_of}
 use Rattle.ch_light.specs.declared.Connection.{Connection}
 use Rattle.ch_model.specs.declared.step.EndError.{EndError}
@@ -16,7 +14,7 @@ use Rattle.ch_model.specs.WorldState.{Cell}
 use Rattle.ch_race.specs.Pair.{Side}
 use Rattle.ch_laws_race.specs.Scene.{Scene, host_of, link_of}
 use Rattle.ch_laws_race.specs.Sound.{Acts}
-use Rattle.ch_laws_race.specs.Asks.{IsRenewed, asks_link}
+use Rattle.ch_laws_race.specs.Asks.{IsRenewed}
 
 -- a frame is put, and no socket is wanted
 abbrev pub puts_frame : Scene → Side → Frame × Weight → Link → Stepped

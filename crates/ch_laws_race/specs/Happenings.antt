@@ -1,6 +1,6 @@
 -- A happening of the world at a socket with all that its cell makes of it, where nodes are told nothing and no whole item is
 -- left to read: as a line of a journal does it, and a settle.
-use Rattle.std.specs.Prelude.{◌≡◌, ℕ, List, [], ◌∷◌, ◌++◌, take, Option, Some, None, Result, Ok}
+use Rattle.std.specs.Prelude.{◌≡◌, ℕ, List, [], ◌∷◌, ◌++◌, take, Some, None, Ok}
 use Rattle.ch_laws_items.specs.Kept.{Apart}
 use Rattle.ch_model.specs.declared.entry.Entry.{Entry}
 use Rattle.ch_model.specs.declared.entry.Verdict.{Verdict}

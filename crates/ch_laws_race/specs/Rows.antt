@@ -168,6 +168,44 @@ half_probe = record (dialed_by Lesser Open Open) { o = record (end_as Lesser (So
 abbrev pub half_fed : Scene
 half_fed = record (up_with false []) { world = record (up_with false []).world { sockets = half_probe ∷ [] } }
 
+-- ---- two nodes on one host
+
+-- the addresses differ by the number of the endpoint
+abbrev pub address_near : Side → Address
+address_near Lesser = record { host = 104 ∷ []; port = 1; id = 7 }
+address_near Greater = record { host = 104 ∷ []; port = 1; id = 8 }
+
+abbrev pub party_near : Side → Party
+party_near x = record { name = name_at x; place = 0; address = address_near x }
+
+-- the host's record of an end of one of the two
+abbrev pub known_near : Side → ℕ → List ℕ → Socket
+known_near x number since = record { number = number; peer_host = None; stage = Open; user = Some ((address_near x).id, address_near (other x)); expected = expected.Frame; since = since }
+
+abbrev pub link_near : Side → ℕ → Link
+link_near x sock = record { end = (address_near x).id; peer = address_near (other x); state = states.Up sock false; waits = []; given = []; created = [] }
+
+-- the lesser node's dial, with both ends at the one host
+abbrev pub dial_near : WorldSocket
+dial_near = record { name = record { from = name_at Lesser; to = name_at Greater; number = 0 }; from_host = 104 ∷ []; o = end_as Lesser (Some 0) Open; t = end_as Lesser (Some 1) Open }
+
+-- The two are up on it, and the lesser node has these bytes there.
+abbrev pub host_near : List ℕ → HostState
+host_near since = record {
+  host = 104 ∷ [];
+  port = 1;
+  circle = (104 ∷ []) ∷ [];
+  ends = record { number = 7; is_open = true; arrived = 0 } ∷ record { number = 8; is_open = true; arrived = 0 } ∷ [];
+  links = link_near Lesser 0 ∷ link_near Greater 1 ∷ [];
+  sockets = known_near Lesser 0 since ∷ known_near Greater 1 [] ∷ [];
+  dials = 1;
+}
+
+abbrev pub near_with : List ℕ → Scene
+near_with since = record { party = party_near; world = record { names = []; strangers = []; cells = cell_with (host_near since) ∷ []; sockets = dial_near ∷ []; last = None }; quiet = true }
+
+-- ---- the cell that acts
+
 -- the cell of a node in a scene of two hosts
 abbrev pub cell_of : Side → Scene → Cell × ℕ
 cell_of x scene = cell_with (host_of scene x)

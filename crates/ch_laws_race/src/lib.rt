@@ -1,7 +1,8 @@
 //! The race for one socket in a whole world: what two of its nodes and their hosts do, as moves of ch_race's pair.
 //!
 //! No code: definitions of the view, and laws as clauses of empty functions. The whole model stands below, and the
-//! machine with its laws.
+//! machine with its laws. Each event of a host is shown to be moves that may happen, apart, and so are happenings of the world
+//! after which no node is told anything and no whole item is left; that every line of a world is a run of moves is open.
 #![tactic(auto)]
 
 ghost use Rattle.std.specs.Prelude.{ℕ, Bool, true, false, List, [], ◌∷◌, length, Some, None};
@@ -36,7 +37,7 @@ ghost use Rattle.ch_link.specs.declared.LinkState.TheVariants.{Idle, Dialing, Up
 ghost use Rattle.ch_model.specs.declared.name.End.TheVariants.{O, T};
 ghost use Rattle.ch_model.specs.declared.step.Weight.TheVariants.{Free};
 ghost use Rattle.ch_model.specs.Stages.{Pending, Open, Ended};
-ghost use Rattle.ch_laws_race.specs.Rows.{up_with, dials_with, lesser_asked, greater_asked, left_with, stale, at_first, just_dialed, half_probe, half_fed, request_of, known_as, dialed_by, dialing_by, cell_of};
+ghost use Rattle.ch_laws_race.specs.Rows.{up_with, dials_with, lesser_asked, greater_asked, left_with, stale, at_first, just_dialed, half_probe, half_fed, near_with, dial_near, known_near, request_of, known_as, dialed_by, dialing_by, cell_of};
 
 /// A probe that is read on the socket that the link is up on is acknowledged there, at either end.
 pub fn probe_is_read()
@@ -210,9 +211,10 @@ pub fn happenings()
         → IsHappening scene (feeds e count socket scene.world) moves }
 {}
 
-/// What the laws ask can be had: small scenes of two nodes on two hosts, one for each law.
+/// What the laws ask can be had: small scenes of two nodes on two hosts, one for each law, and one where both are on one host.
 pub fn scenes()
     ensures probe { ReadsProbe (up_with false (frame_spelling frames.Probe)) Lesser (cell_of Lesser (up_with false (frame_spelling frames.Probe))) O 0 (dialed_by Lesser Open Open) (known_as Lesser 0 Open (Some expected.Frame) (frame_spelling frames.Probe)) false }
+    ensures probe_on_one_host { ReadsProbe (near_with (frame_spelling frames.Probe)) Lesser (cell_of Lesser (near_with (frame_spelling frames.Probe))) O 0 dial_near (known_near Lesser 0 (frame_spelling frames.Probe)) false }
     ensures acknowledgement { ReadsAck (up_with true (frame_spelling frames.ProbeAck)) Lesser (cell_of Lesser (up_with true (frame_spelling frames.ProbeAck))) O 0 (dialed_by Lesser Open Open) (known_as Lesser 0 Open (Some expected.Frame) (frame_spelling frames.ProbeAck)) true }
     ensures closing { ReadsClosed (up_with false (frame_spelling frames.EndClosed)) Lesser (cell_of Lesser (up_with false (frame_spelling frames.EndClosed))) O 0 (dialed_by Lesser Open Open) (known_as Lesser 0 Open (Some expected.Frame) (frame_spelling frames.EndClosed)) false }
     ensures payload { ReadsPayload (up_with false (frame_spelling (frames.Data 1024 []))) Lesser (cell_of Lesser (up_with false (frame_spelling (frames.Data 1024 [])))) O 0 (dialed_by Lesser Open Open) (known_as Lesser 0 Open (Some expected.Frame) (frame_spelling (frames.Data 1024 []))) 1024 [] 1 }
