@@ -1,5 +1,6 @@
 -- Happenings of the world, as moves.
-use Rattle.std.specs.Prelude.{◌≡◌, ℕ, ◌+◌, ◌*◌, true, false, List, [], ◌∷◌, length, take, drop, slice_get, Option, Some, None, Result, Ok, Err, if◌then◌else◌}
+use mathlib.Core.Path.{fun_ext}
+use Rattle.std.specs.Prelude.{◌≡◌, ℕ, ◌+◌, ◌*◌, nat_eq, true, false, cond, List, [], ◌∷◌, length, take, drop, slice_get, Option, Some, None, Result, Ok, Err, if◌then◌else◌}
 use Rattle.std.proofs.Common.{refl, ap, sym, ◌∙◌, subst}
 use Rattle.std.proofs.lemmas.List.{append-nil}
 use Rattle.std.proofs.lemmas.Bool.{eqb-true, and_parts}
@@ -13,7 +14,9 @@ use Rattle.ch_model.specs.declared.entry.Entry.TheVariants as entries
 use Rattle.ch_model.specs.declared.entry.Verdict.{Verdict}
 use Rattle.ch_model.specs.declared.entry.Verdict.TheVariants as verdicts
 use Rattle.ch_model.specs.declared.local.LocalEntry.{LocalEntry}
+use Rattle.ch_model.specs.declared.local.LocalEntry.TheVariants as local
 use Rattle.ch_model.specs.declared.local.LocalEvent.{LocalEvent}
+use Rattle.ch_model.specs.declared.step.Place.{Place}
 use Rattle.ch_model.specs.declared.local.LocalEvent.TheVariants as events
 use Rattle.ch_model.specs.declared.name.End.{End}
 use Rattle.ch_model.specs.declared.name.End.TheVariants.{O, T}
@@ -27,18 +30,18 @@ use Rattle.ch_model.specs.Stages.{Stage, is_open}
 use Rattle.ch_model.specs.Host.{keeps, front_of, handles, some_steps, host_on, host_next}
 use Rattle.ch_model.specs.WorldState.{Cell, WorldEnd, WorldSocket, World}
 use Rattle.ch_model.specs.WorldSockets.{end_of, opened, same_number, is_end_of, with_end_of}
-use Rattle.ch_model.specs.WorldSteps.{all_told}
+use Rattle.ch_model.specs.WorldSteps.{place_after, all_told}
 use Rattle.ch_model.specs.CellSteps.{Followed, ◌then◌, told_steps, steps_on, all_items}
 use Rattle.ch_model.specs.Cell.{answered, host_did, heard_as, cell_step}
 use Rattle.ch_model.specs.WorldHappenings.{Answered, nothing, after_entry, with_cell, cell_told, cell_hears, end_hears, mark_of, joins, comes_at, comes, hands, feeds}
 use Rattle.ch_race.specs.Pair.{Side}
 use Rattle.ch_race.specs.Moves.{Move, Join, Come, AllAllowed, run}
 use Rattle.ch_laws_race.specs.Scene.{Scene, host_in, hosts_of, host_of, done_by}
-use Rattle.ch_laws_race.specs.View.{view}
+use Rattle.ch_laws_race.specs.View.{seen, view}
 use Rattle.ch_laws_race.specs.Arrivals.{IsSeenFrom, Joins, joined_in, hears_joined, next_accepted, Comes, accepting, come_in, hears_come, Feeds, fed_in, hears_fed}
-use Rattle.ch_laws_race.specs.Happenings.{PostsNothing, IsAll, IsHappening, HandsSome, fed_record, fed_host, fed_scene, FeedsOne}
-use Rattle.ch_laws_race.proofs.Sockets.{end_changed, set_set}
-use Rattle.ch_laws_race.proofs.Views.{host_here, hosts_set}
+use Rattle.ch_laws_race.specs.Happenings.{PostsNothing, IsAll, IsHappening, HandsSome, fed_record, fed_host, fed_scene, FeedsOne, AreNotes, AsksNothing}
+use Rattle.ch_laws_race.proofs.Sockets.{by_test, same_place, end_changed, set_set}
+use Rattle.ch_laws_race.proofs.Views.{at_place, host_here, hosts_set}
 use Rattle.ch_laws_race.proofs.Joined.{joins_it}
 use Rattle.ch_laws_race.proofs.Come.{comes_it}
 use Rattle.ch_laws_race.proofs.Fed.{fed_it}
@@ -232,3 +235,26 @@ module _ (scene : Scene) (x : Side) (cell : Cell × ℕ) (e : End) (i count : �
       (sym (hands_some Bytes h.some.first h.some.more h.some.is ∙ hears_there P known.number (end_of e s) (λ sock. sockets.Fed sock Bytes) Between h.fed.has.end)) heard) where
         hands_some : (bytes : List ℕ) (b : ℕ) (more : List ℕ) → bytes ≡ b ∷ more → hands bytes (end_of e s) Between ≡ end_hears (end_of e s) (λ sock. sockets.Fed sock bytes) Between
         hands_some bytes b more is = ap (λ (z : List ℕ). hands z (end_of e s) Between) is ∙ ap (λ (z : List ℕ). end_hears (end_of e s) (λ sock. sockets.Fed sock z) Between) (sym is)
+
+-- ---- a line of a node alone
+
+-- notes change what was said or read last, and nothing else
+noted : (place : ℕ) (cell : Cell) (told : List LocalEntry) (world : World) → AreNotes told → (last : Option Place) × ((all_told place cell told world).1 ≡ record world { last = last })
+noted place cell [] world notes = (world.last, refl)
+noted place cell (local.Note note ∷ rest) world notes = noted place cell rest (record world { last = place_after world.last note }) notes
+noted place cell (local.Step step ∷ rest) world notes = absurd notes
+
+pub nothing_asked : (scene : Scene) (place : ℕ) (cell : Cell × ℕ) (event : LocalEvent) → slice_get scene.world.cells place ≡ Some cell → AsksNothing cell.0 event → IsHappening scene (cell_hears place event scene.world) []
+nothing_asked scene place cell event there h = record {
+  verdict = h.verdict;
+  entries = (all_told place h.after h.told (with_cell place (h.after, cell.1) scene.world)).0;
+  now = (all_told place h.after h.told (with_cell place (h.after, cell.1) scene.world)).1;
+  does = ap (λ (o : Option (Cell × ℕ)). elim o as (λ o. Answered) [ None ↦ nothing scene.world | Some c ↦ cell_told place c scene.world (cell_step c.0 event) ]) there ∙ ap (cell_told place cell scene.world) h.does;
+  allowed = tt;
+  seen = ap (λ (w : World). view (record scene { world = w })) (noted place h.after h.told (with_cell place (h.after, cell.1) scene.world) h.notes).1
+      ∙ ap (λ (f : ℕ → HostState). seen scene.party f scene.world.sockets scene.quiet) (hosts_set scene.world place cell h.after cell.1 there ∙ ap (λ (z : HostState). at_place place z (hosts_of scene.world)) (h.host ∙ sym (ap host_in there)) ∙ placed_same place (hosts_of scene.world));
+} where
+  placed_same : (p : ℕ) (hosts : ℕ → HostState) → at_place p (hosts p) hosts ≡ hosts
+  placed_same p hosts = fun_ext at where
+    at : (q : ℕ) → at_place p (hosts p) hosts q ≡ hosts q
+    at q = by_test (nat_eq q p) (λ h. ap (λ b. cond b (hosts p) (hosts q)) h ∙ ap hosts (same_place p q h)) (λ h. ap (λ b. cond b (hosts p) (hosts q)) h)

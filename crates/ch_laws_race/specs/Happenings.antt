@@ -4,6 +4,9 @@ use Rattle.std.specs.Prelude.{◌≡◌, ℕ, List, [], ◌∷◌, ◌++◌, tak
 use Rattle.ch_laws_items.specs.Kept.{Apart}
 use Rattle.ch_model.specs.declared.entry.Entry.{Entry}
 use Rattle.ch_model.specs.declared.entry.Verdict.{Verdict}
+use Rattle.ch_model.specs.declared.local.LocalEntry.{LocalEntry}
+use Rattle.ch_model.specs.declared.local.LocalEntry.TheVariants as local
+use Rattle.ch_model.specs.declared.local.LocalEvent.{LocalEvent}
 use Rattle.ch_model.specs.declared.step.Step.{Step}
 use Rattle.ch_model.specs.declared.step.Step.TheVariants as steps
 use Rattle.ch_model.specs.declared.name.End.{End}
@@ -12,6 +15,7 @@ use Rattle.ch_model.specs.HostSteps.{Stepped, with_socket}
 use Rattle.ch_model.specs.Host.{first_ready, host_next}
 use Rattle.ch_model.specs.WorldState.{Cell, WorldSocket, World}
 use Rattle.ch_model.specs.WorldSockets.{end_of}
+use Rattle.ch_model.specs.Cell.{cell_step}
 use Rattle.ch_model.specs.WorldHappenings.{Answered}
 use Rattle.ch_race.specs.Pair.{Side}
 use Rattle.ch_race.specs.Moves.{Move, AllAllowed, run}
@@ -75,3 +79,20 @@ pub record FeedsOne (scene : Scene) (x : Side) (cell : Cell × ℕ) (e : End) (i
   pub ready : first_ready (fed_host scene x e count socket known).sockets ≡ Some (fed_record e count socket known)
   pub reads : IsSeen (fed_scene scene x cell e count socket known) x (fed_cell scene x cell e count socket known) (reads_front (fed_scene scene x cell e count socket known) x (fed_record e count socket known)) moves
   pub all : IsAll (reads_front (fed_scene scene x cell e count socket known) x (fed_record e count socket known))
+
+-- ---- a line of a node alone
+
+-- all that is told are notes of nodes
+abbrev pub AreNotes : List LocalEntry → Type 0
+AreNotes [] = Unit {0}
+AreNotes (local.Note note ∷ rest) = AreNotes rest
+AreNotes (local.Step step ∷ rest) = ⊥
+
+-- What a cell makes of an event asks nothing of its host: that is as it was, and only notes are told.
+pub record AsksNothing (cell : Cell) (event : LocalEvent) : Type 0 where
+  pub verdict : Verdict
+  pub told : List LocalEntry
+  pub after : Cell
+  pub does : cell_step cell event ≡ Ok ((verdict, told), after)
+  pub host : after.host ≡ cell.host
+  pub notes : AreNotes told

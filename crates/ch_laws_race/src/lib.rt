@@ -5,7 +5,7 @@
 //! after which no node is told anything and no whole item is left; that every line of a world is a run of moves is open.
 #![tactic(auto)]
 
-ghost use Rattle.std.specs.Prelude.{ℕ, Bool, true, false, List, [], ◌∷◌, length, Some, None};
+ghost use Rattle.std.specs.Prelude.{◌≡◌, ℕ, slice_get, Bool, true, false, List, [], ◌∷◌, length, Some, None};
 ghost use Rattle.ch_model.specs.declared.name.End.{End};
 ghost use Rattle.ch_model.specs.HostState.{Link, Socket};
 ghost use Rattle.ch_model.specs.declared.step.Weight.{Weight};
@@ -23,8 +23,10 @@ ghost use Rattle.ch_laws_race.specs.Arrivals.{IsSeenFrom, Joins, joined_in, hear
 ghost use Rattle.ch_laws_race.specs.Ends.{InputEndsUp, InputEndsDialing, InputEndsUnnamed, end_at, input_ends};
 ghost use Rattle.ch_laws_race.specs.Calls.{PutsWaiting, puts_frame, IsOfLink, Connects, Sends, Closes};
 ghost use Rattle.ch_model.specs.HostCalls.{host_connect, host_send, host_close};
-ghost use Rattle.ch_laws_race.specs.Happenings.{IsAll, IsHappening, HandsSome, FeedsOne};
-ghost use Rattle.ch_model.specs.WorldHappenings.{joins, comes, feeds};
+ghost use Rattle.ch_laws_race.specs.Happenings.{IsAll, IsHappening, HandsSome, FeedsOne, AsksNothing};
+ghost use Rattle.ch_model.specs.declared.local.LocalEvent.{LocalEvent};
+ghost use Rattle.ch_model.specs.declared.local.LocalEvent.TheVariants as events;
+ghost use Rattle.ch_model.specs.WorldHappenings.{cell_hears, joins, comes, feeds};
 ghost use Rattle.ch_laws_race.specs.Scene.{host_of, link_of};
 ghost use Rattle.ch_race.specs.Moves.{Move, Read_o, Read_t, Say, Want, Join, Come};
 ghost use Rattle.ch_wire.specs.declared.answer.Answer.TheVariants as answers;
@@ -211,6 +213,13 @@ pub fn happenings()
         → IsHappening scene (feeds e count socket scene.world) moves }
 {}
 
+/// An event of a cell, of these two nodes or of others, that asks nothing of its host is seen as nothing: a process that is made or
+/// that takes what it has got, or one that says something to its own node.
+pub fn node_alone()
+    ensures { (scene : Scene) (place : ℕ) (cell : Cell × ℕ) (event : LocalEvent) → slice_get scene.world.cells place ≡ Some cell → AsksNothing cell.0 event
+        → IsHappening scene (cell_hears place event scene.world) [] }
+{}
+
 /// What the laws ask can be had: small scenes of two nodes on two hosts, one for each law, and one where both are on one host.
 pub fn scenes()
     ensures probe { ReadsProbe (up_with false (frame_spelling frames.Probe)) Lesser (cell_of Lesser (up_with false (frame_spelling frames.Probe))) O 0 (dialed_by Lesser Open Open) (known_as Lesser 0 Open (Some expected.Frame) (frame_spelling frames.Probe)) false }
@@ -246,6 +255,7 @@ pub fn scenes()
     ensures part { Feeds half_fed Lesser (cell_of Lesser half_fed) O 0 half_probe (known_as Lesser 0 Open (Some expected.Frame) []) }
     ensures some { HandsSome O 2 half_probe }
     ensures feeds_all { IsAll (hears_fed half_fed Lesser O 2 half_probe (known_as Lesser 0 Open (Some expected.Frame) [])) }
+    ensures alone { AsksNothing (cell_of Lesser at_first).0 (events.Make 7) }
     ensures item { FeedsOne half_fed Lesser (cell_of Lesser half_fed) O 0 4 half_probe (known_as Lesser 0 Open (Some expected.Frame) []) (Read_o 0 ∷ []) }
     ensures comes { Comes just_dialed Greater (cell_of Greater just_dialed) 0 (dialing_by Lesser Pending) }
 {}
