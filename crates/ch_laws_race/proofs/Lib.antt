@@ -25,3 +25,5 @@ pub mod Apart
 pub mod Fed
 pub mod Calls
 pub mod Happens
+pub mod Same
+pub mod InTurn

@@ -11,3 +11,4 @@ pub mod Arrivals
 pub mod Rows
 pub mod Calls
 pub mod Happenings
+pub mod Chains

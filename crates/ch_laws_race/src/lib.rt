@@ -23,12 +23,14 @@ ghost use Rattle.ch_laws_race.specs.Arrivals.{IsSeenFrom, Joins, joined_in, hear
 ghost use Rattle.ch_laws_race.specs.Ends.{InputEndsUp, InputEndsDialing, InputEndsUnnamed, end_at, input_ends};
 ghost use Rattle.ch_laws_race.specs.Calls.{PutsWaiting, puts_frame, IsOfLink, Connects, Sends, Closes};
 ghost use Rattle.ch_model.specs.HostCalls.{host_connect, host_send, host_close};
+ghost use Rattle.ch_laws_race.specs.Chains.{Calls, IsOfCalls, moves_of};
 ghost use Rattle.ch_laws_race.specs.Happenings.{IsAll, IsHappening, HandsSome, FeedsOne, AsksNothing};
 ghost use Rattle.ch_model.specs.declared.local.LocalEvent.{LocalEvent};
 ghost use Rattle.ch_model.specs.declared.local.LocalEvent.TheVariants as events;
+ghost use Rattle.ch_model.specs.declared.step.SocketEvent.TheVariants as sockets;
 ghost use Rattle.ch_model.specs.WorldHappenings.{cell_hears, joins, comes, feeds};
 ghost use Rattle.ch_laws_race.specs.Scene.{host_of, link_of};
-ghost use Rattle.ch_race.specs.Moves.{Move, Read_o, Read_t, Say, Want, Join, Come};
+ghost use Rattle.ch_race.specs.Moves.{Move, End_o, Read_o, Read_t, Say, Want, Join, Come};
 ghost use Rattle.ch_wire.specs.declared.answer.Answer.TheVariants as answers;
 ghost use Rattle.ch_wire.specs.declared.answer.Answer.TheVariants.{Crossed, Invalid};
 ghost use Rattle.ch_wire.specs.declared.frame.Frame.TheVariants as frames;
@@ -220,6 +222,13 @@ pub fn node_alone()
         → IsHappening scene (cell_hears place event scene.world) [] }
 {}
 
+/// An event of a cell in which its host is called again and again, with what nodes make of what they are told between, is seen as
+/// the moves of all calls: where each call, in the scene that those before it leave, is seen as its moves.
+pub fn calls_in_turn()
+    ensures { (scene : Scene) (x : Side) (cell : Cell × ℕ) (event : LocalEvent) (calls : Calls) → IsOfCalls scene x cell event calls
+        → IsHappening scene (cell_hears (scene.party x).place event scene.world) (moves_of calls) }
+{}
+
 /// What the laws ask can be had: small scenes of two nodes on two hosts, one for each law, and one where both are on one host.
 pub fn scenes()
     ensures probe { ReadsProbe (up_with false (frame_spelling frames.Probe)) Lesser (cell_of Lesser (up_with false (frame_spelling frames.Probe))) O 0 (dialed_by Lesser Open Open) (known_as Lesser 0 Open (Some expected.Frame) (frame_spelling frames.Probe)) false }
@@ -256,6 +265,7 @@ pub fn scenes()
     ensures some { HandsSome O 2 half_probe }
     ensures feeds_all { IsAll (hears_fed half_fed Lesser O 2 half_probe (known_as Lesser 0 Open (Some expected.Frame) [])) }
     ensures alone { AsksNothing (cell_of Lesser at_first).0 (events.Make 7) }
+    ensures calls { IsOfCalls (left_with (Up 0 false) expected.Frame) Lesser (cell_of Lesser (left_with (Up 0 false) expected.Frame)) (events.Socket (sockets.Ended 0)) ((input_ends (left_with (Up 0 false) expected.Frame) Lesser (known_as Lesser 0 Open (Some expected.Frame) []), End_o 0 ∷ []) ∷ []) }
     ensures item { FeedsOne half_fed Lesser (cell_of Lesser half_fed) O 0 4 half_probe (known_as Lesser 0 Open (Some expected.Frame) []) (Read_o 0 ∷ []) }
     ensures comes { Comes just_dialed Greater (cell_of Greater just_dialed) 0 (dialing_by Lesser Pending) }
 {}

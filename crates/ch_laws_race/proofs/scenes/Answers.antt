@@ -1,4 +1,4 @@
-use Rattle.std.specs.Prelude.{◌≡◌, ◌<◌, ◌≤◌, ℕ, ◌==◌, nat_eq, Bool, true, false, List, [], ◌∷◌, ◌++◌, find, Option, Some, None}
+use Rattle.std.specs.Prelude.{◌≡◌, ◌<◌, ◌≤◌, ℕ, ◌==◌, nat_eq, Bool, true, false, List, [], ◌∷◌, ◌++◌, find, Option, Some, None, Ok, Err}
 use Rattle.std.specs.List.{list_any}
 use Rattle.std.proofs.Common.{refl, ap, sym, ◌∙◌, subst, arith, inl, inr}
 use Rattle.std.proofs.lemmas.List.{append-nil}
@@ -21,22 +21,26 @@ use Rattle.ch_link.specs.declared.LinkState.TheVariants.{Idle, Dialing, Up}
 use Rattle.ch_watch.specs.Same.{same_node}
 use Rattle.ch_model.specs.declared.name.End.{End}
 use Rattle.ch_model.specs.declared.name.End.TheVariants.{O, T}
-use Rattle.ch_model.specs.Stages.{Open}
+use Rattle.ch_model.specs.Stages.{Open, Ended}
 use Rattle.ch_model.specs.HostState.{Link, Socket, HostState}
 use Rattle.ch_model.specs.Host.{host_on, host_next}
-use Rattle.ch_model.specs.HostSteps.{is_socket}
+use Rattle.ch_model.specs.HostSteps.{Stepped, is_socket}
 use Rattle.ch_model.specs.WorldState.{WorldSocket}
 use Rattle.ch_model.specs.WorldSockets.{end_of}
 use Rattle.ch_race.specs.Pair.{Side, Lesser, Greater}
-use Rattle.ch_laws_race.specs.Scene.{Scene, host_of, link_of}
+use Rattle.ch_laws_race.specs.Scene.{Scene, nowhere, host_of, link_of}
 use Rattle.ch_laws_race.specs.View.{has_end}
 use Rattle.ch_laws_race.specs.Sound.{Acts, HasEnd, HasPlace}
 use Rattle.ch_laws_race.specs.Reading.{Reads, IsSeen, reads_front}
-use Rattle.ch_laws_race.specs.Rows.{all_apart, host_with, cell_with, scene_with, known_as, request_of, just_dialed, half_probe, half_fed, cell_of}
+use Rattle.ch_laws_race.specs.Rows.{all_apart, host_with, cell_with, scene_with, known_as, request_of, just_dialed, half_probe, half_fed, cell_of, left_with, dialed_by}
 use Rattle.ch_laws_race.specs.Happenings.{fed_record, fed_cell, fed_scene}
 use Rattle.ch_laws_race.proofs.Read.{probe_read}
 use Rattle.ch_link.specs.Table.{step_of}
-use Rattle.ch_race.specs.Moves.{Read_o}
+use Rattle.ch_race.specs.Moves.{End_o, Read_o}
+use Rattle.ch_laws_race.specs.Ends.{input_ends}
+use Rattle.ch_laws_race.specs.Chains.{unposted}
+use Rattle.ch_laws_race.proofs.Over.{ends_up}
+use Rattle.ch_model.specs.declared.step.Step.{Step}
 use Rattle.ch_laws_race.proofs.Sockets.{same_place}
 use Rattle.ch_laws_race.proofs.Socks.{nothing_left}
 use Rattle.ch_laws_race.proofs.Apart.{apart_by}
@@ -225,6 +229,39 @@ returns-clause-feeds_all z = record { steps = _; host = _; does = refl; silent =
 pub returns-clause-alone : goal.returns-clause-alone
 unfolding host_next digits
 returns-clause-alone z = record { verdict = _; told = _; after = _; does = refl; host = refl; notes = tt }
+
+-- the end of input of a link that is up
+abbrev Left_up : Scene
+Left_up = left_with (Up 0 false) expected.Frame
+
+abbrev Up_there : Socket
+Up_there = known_as Lesser 0 Open (Some expected.Frame) []
+
+ended_up : IsSeen Left_up Lesser (cell_of Lesser Left_up) (input_ends Left_up Lesser Up_there) (End_o 0 ∷ [])
+unfolding same_node
+ended_up = ends_up Left_up Lesser (cell_of Lesser Left_up) O 0 (dialed_by Lesser Open Ended) Up_there
+    (record { acts = lesser_acts _ _ _ _ _ refl; has = record { at = refl; end = refl; between = refl; opener = refl; target = refl }; standing = refl; stands = refl; kept = refl; empty = refl; over = inr refl }) false refl refl
+
+-- what a call did, where it did something
+abbrev Done : {A : Type 0} → A → (List Step × HostState → A) → Stepped → A
+Done other f (Ok done) = f done
+Done other f (Err stop) = other
+
+pub returns-clause-calls : goal.returns-clause-calls
+unfolding host_on host_next same_node step_of
+returns-clause-calls z = record {
+  there = refl;
+  verdict = _;
+  told = _;
+  after = _;
+  does = refl;
+  are = (
+    record { seen = ended_up; text = ap (Done [] (λ d. d.1.host)) (sym ended_up.does); port = ap (Done 0 (λ d. d.1.port)) (sym ended_up.does) },
+    tt,
+  );
+  steps = ap (Done [] (λ d. unposted (d.0 ++ []))) ended_up.does;
+  host = ap (Done nowhere (λ d. d.1)) ended_up.does;
+}
 
 -- the probe in the bytes that are fed
 abbrev Empty : Socket
