@@ -1,13 +1,12 @@
 -- Calls of a host in one event, one after another, as moves.
 use mathlib.Core.Path.{fun_ext}
-use Rattle.std.specs.Prelude.{◌≡◌, ◌<◌, ℕ, zero, suc, ◌+◌, Bool, not, cond, nat_eq, nat_lt, ◌&&◌, ◌==◌, List, [], ◌∷◌, ◌++◌, length, slice_get, slice_set, Option, Some, None, Ok}
+use Rattle.std.specs.Prelude.{◌≡◌, ℕ, zero, suc, ◌+◌, Bool, not, cond, nat_eq, nat_lt, ◌&&◌, ◌==◌, List, [], ◌∷◌, ◌++◌, length, slice_get, slice_set, Option, Some, None}
 use Rattle.std.specs.List.{position_or_len, position}
 use Rattle.std.specs.Str.{bytes_eq}
 use Rattle.std.proofs.Common.{refl, ap, sym, ◌∙◌, subst}
 use Rattle.std.proofs.lemmas.Option.{slice_get_within}
 use Rattle.ch_base.specs.declared.address.Address.{Address}
 use Rattle.ch_light.proofs.Lists.{set_here}
-use Rattle.ch_model.specs.declared.local.LocalEntry.{LocalEntry}
 use Rattle.ch_model.specs.declared.local.LocalEvent.{LocalEvent}
 use Rattle.ch_model.specs.declared.step.Step.{Step}
 use Rattle.ch_model.specs.declared.step.Step.TheVariants as steps

@@ -12,7 +12,7 @@ use Rattle.ch_model.specs.WorldState.{Cell}
 use Rattle.ch_model.specs.Cell.{cell_step}
 use Rattle.ch_race.specs.Pair.{Side}
 use Rattle.ch_race.specs.Moves.{Move}
-use Rattle.ch_laws_race.specs.Scene.{Scene, host_of, after_steps}
+use Rattle.ch_laws_race.specs.Scene.{Scene, after_steps}
 use Rattle.ch_laws_race.specs.Reading.{IsSeen}
 
 -- what each call of a host does, and as which moves it is seen

@@ -1,12 +1,9 @@
-use Rattle.std.specs.Prelude.{◌≡◌, ◌<◌, ◌≤◌, ℕ, ◌==◌, nat_eq, Bool, true, false, List, [], ◌∷◌, ◌++◌, find, Option, Some, None, Ok, Err}
+use Rattle.std.specs.Prelude.{◌≡◌, ℕ, Bool, true, false, List, [], ◌∷◌, ◌++◌, find, Some, Ok, Err}
 use Rattle.std.specs.List.{list_any}
 use Rattle.std.proofs.Common.{refl, ap, sym, ◌∙◌, subst, arith, inl, inr}
 use Rattle.std.proofs.lemmas.List.{append-nil}
 use Rattle.std.specs.Fmt.{digits}
-use Rattle.ch_wire.specs.Spelling.{request_spelling, answer_spelling, frame_spelling}
-use Rattle.ch_wire.specs.declared.answer.Answer.TheVariants as answers
 use Rattle.ch_wire.specs.declared.frame.Frame.TheVariants as frames
-use Rattle.ch_wire.specs.declared.request.Request.{Request}
 use Rattle.ch_wire.specs.Spelling.{IsRequest}
 use Rattle.ch_reader.specs.declared.item.Expected.{Expected}
 use Rattle.ch_reader.specs.declared.item.Expected.TheVariants as expected
@@ -16,11 +13,10 @@ use Rattle.ch_reader.specs.Items.{item_spelling, MayStand}
 use Rattle.ch_reader.specs.Streams.{IsStreamFrom}
 use Rattle.ch_light.specs.Ids.{conn_of, closed_of, created_of, id_of, give_of, close_of}
 use Rattle.ch_link.specs.Sockets.{names}
-use Rattle.ch_link.specs.declared.LinkState.{LinkState}
-use Rattle.ch_link.specs.declared.LinkState.TheVariants.{Idle, Dialing, Up}
+use Rattle.ch_link.specs.declared.LinkState.TheVariants.{Up}
 use Rattle.ch_watch.specs.Same.{same_node}
 use Rattle.ch_model.specs.declared.name.End.{End}
-use Rattle.ch_model.specs.declared.name.End.TheVariants.{O, T}
+use Rattle.ch_model.specs.declared.name.End.TheVariants.{O}
 use Rattle.ch_model.specs.Stages.{Open, Ended}
 use Rattle.ch_model.specs.HostState.{Link, Socket, HostState}
 use Rattle.ch_model.specs.Host.{host_on, host_next}
@@ -30,7 +26,7 @@ use Rattle.ch_model.specs.WorldSockets.{end_of}
 use Rattle.ch_race.specs.Pair.{Side, Lesser, Greater}
 use Rattle.ch_laws_race.specs.Scene.{Scene, nowhere, host_of, link_of}
 use Rattle.ch_laws_race.specs.View.{has_end}
-use Rattle.ch_laws_race.specs.Sound.{Acts, HasEnd, HasPlace}
+use Rattle.ch_laws_race.specs.Sound.{Acts, HasEnd}
 use Rattle.ch_laws_race.specs.Reading.{Reads, IsSeen, reads_front}
 use Rattle.ch_laws_race.specs.Rows.{all_apart, host_with, cell_with, scene_with, known_as, request_of, just_dialed, half_probe, half_fed, cell_of, left_with, dialed_by}
 use Rattle.ch_laws_race.specs.Happenings.{fed_record, fed_cell, fed_scene}
