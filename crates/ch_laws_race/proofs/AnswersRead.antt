@@ -1,10 +1,9 @@
 -- The answers to a request, read by its opener, as moves.
-use Rattle.std.specs.Prelude.{◌≡◌, ℕ, Bool, true, false, List, [], ◌∷◌, map, find, slice_set, Option, Some, None, Ok}
-use Rattle.std.proofs.Common.{refl, ap, sym, ◌∙◌, subst}
+use Rattle.std.specs.Prelude.{◌≡◌, ℕ, false, List, [], ◌∷◌, map, slice_set, Option, Some, None, Ok}
+use Rattle.std.proofs.Common.{refl, ap, sym, ◌∙◌}
 use Rattle.ch_base.specs.declared.address.Address.{Address}
 use Rattle.ch_wire.specs.declared.answer.Answer.{Answer}
 use Rattle.ch_wire.specs.declared.answer.Answer.TheVariants as answers
-use Rattle.ch_wire.specs.declared.frame.Frame.{Frame}
 use Rattle.ch_reader.specs.declared.item.Expected.{Expected}
 use Rattle.ch_reader.specs.declared.item.Expected.TheVariants as expected
 use Rattle.ch_reader.specs.declared.item.Item.TheVariants as items
@@ -13,9 +12,7 @@ use Rattle.ch_link.specs.declared.LinkState.{LinkState}
 use Rattle.ch_link.specs.declared.LinkState.TheVariants.{Idle, Dialing, AwaitOther, Up}
 use Rattle.ch_link.specs.declared.LinkIn.TheVariants as inputs
 use Rattle.ch_model.specs.declared.name.End.TheVariants.{O, T}
-use Rattle.ch_model.specs.declared.step.Step.{Step}
 use Rattle.ch_model.specs.declared.step.Step.TheVariants as steps
-use Rattle.ch_model.specs.declared.step.Weight.{Weight}
 use Rattle.ch_model.specs.Stages.{Stage, Open}
 use Rattle.ch_model.specs.CellSteps.{told_steps}
 use Rattle.ch_model.specs.HostState.{Link, Socket, HostState}
@@ -24,7 +21,7 @@ use Rattle.ch_model.specs.HostSteps.{still, link_with, with_link, with_socket}
 use Rattle.ch_model.specs.HostWrites.{frame_step, forgotten}
 use Rattle.ch_model.specs.HostLinks as links
 use Rattle.ch_model.specs.HostItems.{heard_answer, reads_on}
-use Rattle.ch_model.specs.WorldState.{Cell, WorldEnd, WorldSocket, World}
+use Rattle.ch_model.specs.WorldState.{Cell, WorldSocket, World}
 use Rattle.ch_model.specs.WorldSteps.{all_told}
 use Rattle.ch_race.specs.Pair as pair
 use Rattle.ch_race.specs.Pair.{Side, other, same, OEnd, OAsking, Sock, Pair, put, point}
@@ -35,10 +32,10 @@ use Rattle.ch_laws_race.specs.Sound.{Acts, TakesFrames, first_of}
 use Rattle.ch_laws_race.specs.Reading.{Reads, IsUser, IsSeen, reads_front}
 use Rattle.ch_laws_race.specs.Answers.{AreData, each_said, reads_and_says}
 use Rattle.ch_laws_race.proofs.Keys.{link_named}
-use Rattle.ch_laws_race.proofs.Views.{Kept, kept_link}
+use Rattle.ch_laws_race.proofs.Views.{kept_link}
 use Rattle.ch_laws_race.proofs.Pairs.{put_here, put_put, point_own}
 use Rattle.ch_laws_race.proofs.Steps.{up_there}
-use Rattle.ch_laws_race.proofs.Socks.{sock_by, upped, ended_at, end_of_own}
+use Rattle.ch_laws_race.proofs.Socks.{sock_by, end_of_own}
 use Rattle.ch_laws_race.proofs.Many.{write_all, says_all, all_wrote, all_alike, writes_all, said_all, may_say}
 use Rattle.ch_laws_race.proofs.Readings.{taken, takes_front, reads_answer_accepted, reads_answer_crossed, reads_answer_invalid}
 use Rattle.ch_laws_race.proofs.Heard.{raises, leaves_dial, fails_dial, told_failed, raised, crossed, failed}

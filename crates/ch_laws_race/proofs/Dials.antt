@@ -1,15 +1,12 @@
 -- What connections ask of a link that is idle, as moves: it dials.
-use Rattle.std.specs.Prelude.{◌≡◌, ◌⊎◌, ℕ, ◌+◌, Bool, true, false, cond, ◌||◌, ◌&&◌, ◌==◌, nat_eq, List, [], ◌∷◌, ◌++◌, length, find, is_some, nat_lt, slice_get, slice_set, Option, Some, None, Ok, Err, if◌then◌else◌}
+use Rattle.std.specs.Prelude.{◌≡◌, ℕ, ◌+◌, Bool, true, false, cond, ◌||◌, ◌&&◌, ◌==◌, List, [], ◌∷◌, ◌++◌, length, find, is_some, slice_get, Option, Some, None, if◌then◌else◌}
 use Rattle.std.specs.List.{list_any}
 use Rattle.std.specs.Str.{bytes_eq}
-use Rattle.std.proofs.Common.{refl, ap, sym, ◌∙◌, subst, inl, inr}
+use Rattle.std.proofs.Common.{refl, ap, sym, ◌∙◌}
 use Rattle.ch_base.specs.declared.address.Address.{Address}
-use Rattle.ch_base.specs.declared.memory.Stop.TheVariants as stops
-use Rattle.ch_wire.specs.Spelling.{frame_spelling}
 use Rattle.ch_wire.specs.declared.frame.Frame.{Frame}
 use Rattle.ch_reader.specs.declared.item.Expected.{Expected}
 use Rattle.ch_reader.specs.declared.item.Expected.TheVariants as expected
-use Rattle.ch_reader.specs.declared.item.Item.TheVariants as items
 use Rattle.ch_link.specs.Table.{step_of}
 use Rattle.ch_link.specs.Sockets.{names}
 use Rattle.ch_link.specs.declared.LinkState.{LinkState}
@@ -17,40 +14,27 @@ use Rattle.ch_link.specs.declared.LinkState.TheVariants.{Idle, Dialing, AwaitOth
 use Rattle.ch_link.specs.declared.LinkIn.TheVariants as inputs
 use Rattle.ch_model.specs.declared.name.End.{End}
 use Rattle.ch_model.specs.declared.name.End.TheVariants.{O, T}
-use Rattle.ch_model.specs.declared.step.Step.{Step}
 use Rattle.ch_model.specs.declared.step.Step.TheVariants as steps
 use Rattle.ch_model.specs.declared.step.Weight.{Weight}
-use Rattle.ch_model.specs.Stages.{Pending, Ended}
-use Rattle.ch_model.specs.HostState.{Link, Socket, HostState}
-use Rattle.ch_model.specs.HostSteps as host
-use Rattle.ch_model.specs.HostSteps.{Stepped, own_address, is_socket, link_with, with_link, with_socket}
-use Rattle.ch_model.specs.HostWrites.{said_of, frame_step}
-use Rattle.ch_model.specs.HostLinks as links
-use Rattle.ch_model.specs.HostLinks.{most_dials, next_dial, dialed}
-use Rattle.ch_model.specs.HostCalls.{puts_and_wants}
+use Rattle.ch_model.specs.Stages.{Pending}
+use Rattle.ch_model.specs.HostState.{Link, HostState}
+use Rattle.ch_model.specs.HostSteps.{own_address, is_socket, with_link}
+use Rattle.ch_model.specs.HostLinks.{next_dial, dialed}
 use Rattle.ch_model.specs.Same.{is_between}
-use Rattle.ch_model.specs.Naming.{Names, called}
-use Rattle.ch_model.specs.WorldState.{Cell, WorldEnd, WorldSocket, World}
+use Rattle.ch_model.specs.Naming.{called}
+use Rattle.ch_model.specs.WorldState.{Cell, WorldSocket, World}
 use Rattle.ch_model.specs.WorldSockets as world
 use Rattle.ch_model.specs.WorldSockets.{end_of, with_end, is_end_of, end_at, end_of_nobody, is_socket_named, store_in, next_name, cell_of, target_end, new_socket}
-use Rattle.ch_model.specs.WorldSteps.{stepped}
 use Rattle.ch_race.specs.Pair as pair
 use Rattle.ch_race.specs.Pair.{Side, Lesser, Greater, other, is_greater, Sock, Pair, put, point, says, fresh}
-use Rattle.ch_race.specs.Moves.{Say, Want, Allowed, hears, obeys, say, after}
-use Rattle.ch_laws_race.specs.Scene.{Party, Scene, hosts_of, host_of, link_of, after_steps, done_by}
-use Rattle.ch_laws_race.specs.View as views
-use Rattle.ch_laws_race.specs.View.{frame_kind, Reader, reader_of, record_of, reader_at, opener_of, sock_with, sock_of, sock_seen, has_end, place_of, with_places, is_shut, seen, view}
-use Rattle.ch_laws_race.specs.Sound.{Acts, HasEnd, TakesItem, first_of}
+use Rattle.ch_race.specs.Moves.{Want, obeys, after}
+use Rattle.ch_laws_race.specs.Scene.{Party, Scene, hosts_of, host_of, link_of, done_by}
+use Rattle.ch_laws_race.specs.View.{Reader, reader_of, reader_at, sock_with, sock_of, sock_seen, has_end, place_of, with_places, seen, view}
 use Rattle.ch_laws_race.specs.Reading.{IsSeen}
 use Rattle.ch_laws_race.specs.Asks.{asks_link, AsksIdle}
-use Rattle.ch_laws_race.proofs.Keys.{equal_bytes, equal_numbers, link_kept, link_named, other_link, socket_kept, other_socket}
-use Rattle.ch_laws_race.proofs.Sockets.{by_test, same_place, Alike, alike_self, set_same}
-use Rattle.ch_laws_race.proofs.Views.{at_place, host_here, hosts_set, self_number, own_reader, Kept, kept_all, kept_link, kept_socket}
-use Rattle.ch_laws_race.proofs.Pairs.{point_same}
-use Rattle.ch_laws_race.proofs.Steps.{arrived_alike, writes_there}
-use Rattle.ch_laws_race.proofs.Socks.{sock_by, wrote}
-use Rattle.ch_laws_race.proofs.One.{by_end, World_of, place_is, sock_is, seen_after}
-use Rattle.ch_laws_race.proofs.Grown.{nobody_has, place_stays, place_new, stored_last, none_past, seen_alone, seen_grown}
+use Rattle.ch_laws_race.proofs.Keys.{equal_bytes, equal_numbers, link_named, socket_kept}
+use Rattle.ch_laws_race.proofs.Views.{at_place, host_here, hosts_set, self_number, Kept, kept_all, kept_link, kept_socket}
+use Rattle.ch_laws_race.proofs.Grown.{nobody_has, place_stays, place_new, stored_last, none_past, seen_grown}
 use Rattle.ch_laws_race.proofs.Asks.{More_waits, Dialed, puts_idle}
 use Rattle.ch_laws_race.proofs.Grown.{reader_off}
 use Rattle.ch_model.specs.WorldHappenings.{with_cell}
@@ -61,9 +45,9 @@ between_names party Lesser number = ap (λ b. (b && bytes_eq (party Greater).nam
 between_names party Greater number = ap (λ b. (bytes_eq (party Greater).name (party Lesser).name && bytes_eq (party Lesser).name (party Greater).name) || (b && bytes_eq (party Lesser).name (party Lesser).name)) (equal_bytes (party Greater).name)
     ∙ ap (λ b. (bytes_eq (party Greater).name (party Lesser).name && bytes_eq (party Lesser).name (party Greater).name) || b) (equal_bytes (party Lesser).name)
     ∙ or_true (bytes_eq (party Greater).name (party Lesser).name && bytes_eq (party Lesser).name (party Greater).name) where
-  or_true : (b : Bool) → (b || true) ≡ true
-  or_true true = refl
-  or_true false = refl
+      or_true : (b : Bool) → (b || true) ≡ true
+      or_true true = refl
+      or_true false = refl
 
 opened_by : (party : Side → Party) (x : Side) → bytes_eq (party Greater).name (party Lesser).name ≡ false → (if bytes_eq (party x).name (party Lesser).name then Lesser else Greater) ≡ x
 opened_by party Lesser apart = ap (λ b. if b then Lesser else Greater) (equal_bytes (party Lesser).name)

@@ -1,6 +1,5 @@
 -- What a change at a host alone, and a socket that is opened, change of what is seen.
-use mathlib.Core.Path.{fun_ext}
-use Rattle.std.specs.Prelude.{◌≡◌, ◌≢◌, ℕ, zero, suc, Bool, true, false, cond, ◌&&◌, ◌||◌, ◌==◌, nat_eq, List, [], ◌∷◌, ◌++◌, length, find, is_some, slice_get, Option, Some, None}
+use Rattle.std.specs.Prelude.{◌≡◌, ℕ, zero, suc, Bool, true, false, cond, ◌&&◌, ◌||◌, ◌==◌, nat_eq, List, [], ◌∷◌, ◌++◌, length, find, is_some, slice_get, Option, Some, None}
 use Rattle.std.specs.List.{list_any}
 use Rattle.std.proofs.Common.{refl, ap, sym, ◌∙◌, arith}
 use Rattle.std.proofs.lemmas.Bool.Decides.{nat_tests}
@@ -15,13 +14,13 @@ use Rattle.ch_model.specs.HostState.{Link, HostState}
 use Rattle.ch_model.specs.HostSteps.{is_socket, link_with}
 use Rattle.ch_model.specs.Same.{is_between}
 use Rattle.ch_model.specs.WorldState.{WorldEnd, WorldSocket}
-use Rattle.ch_model.specs.WorldSockets.{end_of, same_number, is_end_of, end_at, is_socket_named, store_in}
-use Rattle.ch_race.specs.Pair.{Side, Lesser, Greater, other, same, Sock, Pair, dead, put, point}
+use Rattle.ch_model.specs.WorldSockets.{end_of, same_number, is_end_of, is_socket_named, store_in}
+use Rattle.ch_race.specs.Pair.{Side, Lesser, Greater, other, same, Sock, dead, put, point}
 use Rattle.ch_laws_race.specs.Scene.{Party}
 use Rattle.ch_laws_race.specs.View.{Reader, reader_of, record_of, reader_at, sock_with, sock_of, sock_seen, has_end, place_of, with_places, is_shut, seen}
 use Rattle.ch_laws_race.proofs.Keys.{equal_numbers}
 use Rattle.ch_laws_race.proofs.Sockets.{by_test, same_place, other_place, given}
-use Rattle.ch_laws_race.proofs.Views.{alike_pairs, by_side, at_place, host_here, self_number, Kept}
+use Rattle.ch_laws_race.proofs.Views.{alike_pairs, by_side, at_place, host_here}
 
 -- ---- places
 

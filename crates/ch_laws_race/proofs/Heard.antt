@@ -1,6 +1,6 @@
 -- What a link makes of an item, at its host and in the pair.
 use Rattle.std.specs.Prelude.{◌≡◌, ℕ, nat_eq, Bool, true, false, List, [], ◌∷◌, map, None, Ok}
-use Rattle.std.proofs.Common.{refl, ap, sym, ◌∙◌}
+use Rattle.std.proofs.Common.{refl, ap, ◌∙◌}
 use Rattle.ch_wire.specs.Spelling.{answer_spelling, frame_spelling}
 use Rattle.ch_wire.specs.declared.answer.Answer.TheVariants as replies
 use Rattle.ch_wire.specs.declared.frame.Frame.TheVariants as frames
@@ -108,20 +108,24 @@ pub crosses_dialing : (link : Link) (own sock : ℕ) (now : HostState) → link.
 unfolding step_of
 crosses_dialing link own sock now is order = ap (λ (k : LinkState). links.hears (inputs.Asked sock) (record link { state = k }) now) is
     ∙ ap (by_order (inputs.Asked sock) (record link { state = Dialing own }) now) order ∙ told link where
-  told : (l : Link) → by_order (inputs.Asked sock) (record l { state = Dialing own }) now true ≡ Ok (steps.Write sock (answer_spelling replies.Crossed) None ∷ steps.Left sock ∷ [], end_socket sock (with_link (record l { state = Dialing own }) now))
-  told l = refl
+      told : (l : Link) → by_order (inputs.Asked sock) (record l { state = Dialing own }) now true ≡ Ok (steps.Write sock (answer_spelling replies.Crossed) None ∷ steps.Left sock ∷ [], end_socket sock (with_link (record l { state = Dialing own }) now))
+      told l = refl
 
 -- one that dials, of the lesser address, leaves its dial and accepts
 pub takes_dialing : (link : Link) (own sock : ℕ) (now : HostState) → link.state ≡ Dialing own → addresses.is_greater (own_address now link.end) link.peer ≡ false → links.hears (inputs.Asked sock) link now
-    ≡ Ok (steps.Left own ∷ steps.Up sock ∷ steps.Write sock (answer_spelling replies.Accepted) None ∷ map (frame_step sock) link.waits,
-      with_link (record link { state = Up sock false; waits = [] }) (end_socket own (with_link (record link { state = Up sock false }) now)))
+    ≡ Ok (
+      steps.Left own ∷ steps.Up sock ∷ steps.Write sock (answer_spelling replies.Accepted) None ∷ map (frame_step sock) link.waits,
+      with_link (record link { state = Up sock false; waits = [] }) (end_socket own (with_link (record link { state = Up sock false }) now)),
+    )
 unfolding step_of
 takes_dialing link own sock now is order = ap (λ (k : LinkState). links.hears (inputs.Asked sock) (record link { state = k }) now) is
     ∙ ap (by_order (inputs.Asked sock) (record link { state = Dialing own }) now) order ∙ told link where
-  told : (l : Link) → by_order (inputs.Asked sock) (record l { state = Dialing own }) now false
-      ≡ Ok (steps.Left own ∷ steps.Up sock ∷ steps.Write sock (answer_spelling replies.Accepted) None ∷ map (frame_step sock) l.waits,
-        with_link (record l { state = Up sock false; waits = [] }) (end_socket own (with_link (record l { state = Up sock false }) now)))
-  told l = refl
+      told : (l : Link) → by_order (inputs.Asked sock) (record l { state = Dialing own }) now false
+          ≡ Ok (
+            steps.Left own ∷ steps.Up sock ∷ steps.Write sock (answer_spelling replies.Accepted) None ∷ map (frame_step sock) l.waits,
+            with_link (record l { state = Up sock false; waits = [] }) (end_socket own (with_link (record l { state = Up sock false }) now)),
+          )
+      told l = refl
 
 -- one that is up and probed crosses
 pub crosses_probed : (link : Link) (up sock : ℕ) (now : HostState) → link.state ≡ Up up true → links.hears (inputs.Asked sock) link now

@@ -1,22 +1,18 @@
 -- The whole items of bytes that spell some.
-use Rattle.std.specs.Prelude.{◌≡◌, ◌<◌, ◌≤◌, ℕ, zero, suc, ◌+◌, Bool, true, false, List, [], ◌∷◌, ◌++◌, length, drop, map}
-use Rattle.std.proofs.Common.{refl, ap, sym, ◌∙◌, arith, append_assoc, length-append}
+use Rattle.std.specs.Prelude.{◌≡◌, ◌<◌, ◌≤◌, ℕ, zero, suc, List, [], ◌∷◌, ◌++◌, length, drop, map}
+use Rattle.std.proofs.Common.{refl, ap, ◌∙◌, arith, append_assoc, length-append}
 use Rattle.ch_wire.specs.declared.frame.Frame.TheVariants as frames
 use Rattle.ch_reader.specs.declared.item.Expected.{Expected}
 use Rattle.ch_reader.specs.declared.item.Expected.TheVariants as expected
 use Rattle.ch_reader.specs.declared.item.Front.{Front}
-use Rattle.ch_reader.specs.declared.item.Front.TheVariants.{Unfinished, Whole, Refused}
+use Rattle.ch_reader.specs.declared.item.Front.TheVariants.{Whole}
 use Rattle.ch_reader.specs.declared.item.Item.{Item}
 use Rattle.ch_reader.specs.declared.item.Item.TheVariants as items
-use Rattle.ch_reader.specs.Items.{item_spelling, spellings, MayStand, MayFollow, expected_after}
-use Rattle.ch_reader.specs.Reading.{reading}
+use Rattle.ch_reader.specs.Items.{item_spelling, spellings, MayFollow, expected_after}
 use Rattle.ch_reader.specs.Streams.{IsUnfinished, IsStreamFrom}
 use Rattle.ch_reader.proofs.Complete.{reads_item, reads_unfinished}
-use Rattle.ch_model.specs.declared.step.Place.{Place}
-use Rattle.ch_model.specs.WorldState.{WorldEnd}
 use Rattle.ch_race.specs.Pair as pair
-use Rattle.ch_laws_race.specs.View.{kind, items_in, whole_items, Reader, unread_at}
-use Rattle.ch_laws_race.specs.Sound.{HasPlace}
+use Rattle.ch_laws_race.specs.View.{kind, items_in, whole_items}
 
 -- an item has a byte
 has_byte : (item : Item) → 0 < length (item_spelling item)
@@ -60,12 +56,12 @@ all_in (suc more) e (item ∷ is) rest each u enough =
     ∙ ap (behind more (item_spelling item ++ (spellings is ++ rest))) (reads_item e item (spellings is ++ rest) each.0)
     ∙ ap (λ (z : List ℕ). kind item ∷ items_in more expected.Frame z) (drop_all (item_spelling item) (spellings is ++ rest))
     ∙ ap (λ (z : List pair.Item). kind item ∷ z) (all_in more expected.Frame is rest each.1 (later is u) (fewer enough)) where
-  later : (js : List Item) → IsUnfinished expected.Frame rest → IsUnfinished (expected_after expected.Frame js) rest
-  later [] u = u
-  later (j ∷ js) u = u
+      later : (js : List Item) → IsUnfinished expected.Frame rest → IsUnfinished (expected_after expected.Frame js) rest
+      later [] u = u
+      later (j ∷ js) u = u
 
-  fewer : length ((item_spelling item ++ spellings is) ++ rest) ≤ suc more → length (spellings is ++ rest) ≤ more
-  fewer h = omega (arith, h, has_byte item, ap length (append_assoc (item_spelling item) (spellings is) rest), length-append (item_spelling item) (spellings is ++ rest))
+      fewer : length ((item_spelling item ++ spellings is) ++ rest) ≤ suc more → length (spellings is ++ rest) ≤ more
+      fewer h = omega (arith, h, has_byte item, ap length (append_assoc (item_spelling item) (spellings is) rest), length-append (item_spelling item) (spellings is ++ rest))
 
 -- the whole items of a stream are its items
 pub stream_items : (e : Expected) (bytes : List ℕ) (is : List Item) (rest : List ℕ) → IsStreamFrom e bytes is rest → whole_items e bytes ≡ map kind is

@@ -1,5 +1,5 @@
 -- A socket that is joined, as a move.
-use Rattle.std.specs.Prelude.{◌≡◌, ℕ, Bool, true, false, List, [], ◌∷◌, find, slice_get, slice_set, Option, Some, None, Ok, if◌then◌else◌}
+use Rattle.std.specs.Prelude.{◌≡◌, ℕ, List, [], ◌∷◌, slice_set, Option, Some, None, Ok, if◌then◌else◌}
 use Rattle.std.proofs.Common.{refl, ap, sym, ◌∙◌}
 use Rattle.ch_base.specs.declared.address.Address.{Address}
 use Rattle.ch_wire.specs.Spelling.{request_spelling}
@@ -7,31 +7,25 @@ use Rattle.ch_wire.specs.declared.request.Request.{Request}
 use Rattle.ch_reader.specs.declared.item.Expected.{Expected}
 use Rattle.ch_reader.specs.declared.item.Expected.TheVariants as expected
 use Rattle.ch_reader.specs.declared.item.Item.TheVariants as items
-use Rattle.ch_link.specs.declared.LinkState.{LinkState}
-use Rattle.ch_model.specs.declared.name.End.{End}
 use Rattle.ch_model.specs.declared.name.End.TheVariants.{O, T}
-use Rattle.ch_model.specs.declared.step.Step.{Step}
 use Rattle.ch_model.specs.declared.step.Step.TheVariants as steps
-use Rattle.ch_model.specs.Stages.{Stage, Pending, Open, is_pending}
+use Rattle.ch_model.specs.Stages.{Stage, Open, is_pending}
 use Rattle.ch_model.specs.HostState.{Link, Socket, HostState}
-use Rattle.ch_model.specs.HostSteps.{Stepped, still, own_address, is_socket, with_socket}
+use Rattle.ch_model.specs.HostSteps.{Stepped, still, own_address, with_socket}
 use Rattle.ch_model.specs.HostWrites.{writes}
 use Rattle.ch_model.specs.Host.{joins, host_on}
 use Rattle.ch_model.specs.WorldState.{Cell, WorldSocket, World}
 use Rattle.ch_model.specs.WorldSockets as world
 use Rattle.ch_model.specs.WorldSockets.{end_of, with_end, opened}
-use Rattle.ch_model.specs.WorldHappenings.{with_cell}
-use Rattle.ch_model.specs.WorldSteps.{stepped}
 use Rattle.ch_race.specs.Pair as pair
 use Rattle.ch_race.specs.Pair.{Side, other, Sock, Pair, put, point, says}
 use Rattle.ch_race.specs.Moves.{Join}
 use Rattle.ch_laws_race.specs.Scene.{Scene, hosts_of, host_of, link_of, done_by}
-use Rattle.ch_laws_race.specs.View.{Reader, reader_of, reader_at, opener_end, sock_of, place_of, with_places, seen, view}
-use Rattle.ch_laws_race.specs.Sound.{Acts, HasEnd}
+use Rattle.ch_laws_race.specs.View.{Reader, reader_of, reader_at, opener_end, seen, view}
 use Rattle.ch_laws_race.specs.Arrivals.{IsSeenFrom, request_from, Joins, joined_in, hears_joined}
 use Rattle.ch_laws_race.proofs.Keys.{socket_kept}
 use Rattle.ch_laws_race.proofs.Sockets.{Alike, alike_self, alike_with, end_changed}
-use Rattle.ch_laws_race.proofs.Views.{hosts_set, own_reader, Kept, kept_all, kept_socket}
+use Rattle.ch_laws_race.proofs.Views.{hosts_set, own_reader, kept_all, kept_socket}
 use Rattle.ch_laws_race.proofs.Pairs.{point_same}
 use Rattle.ch_laws_race.proofs.Steps.{arrived_alike, writes_there}
 use Rattle.ch_laws_race.proofs.Socks.{sock_by, wrote, says_at}

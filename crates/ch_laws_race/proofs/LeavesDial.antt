@@ -1,5 +1,5 @@
 -- A request that the node of the lesser address reads while it dials, as moves: it leaves its dial, and accepts.
-use Rattle.std.specs.Prelude.{◌≡◌, ℕ, Bool, true, false, ◌==◌, nat_eq, List, [], ◌∷◌, map, find, slice_get, slice_set, Option, Some, None, Ok}
+use Rattle.std.specs.Prelude.{◌≡◌, ℕ, true, false, ◌==◌, nat_eq, List, [], ◌∷◌, map, find, slice_get, slice_set, Option, Some, None, Ok}
 use Rattle.std.proofs.Common.{refl, ap, sym, ◌∙◌, arith}
 use Rattle.std.proofs.lemmas.Bool.Decides.{nat_tests}
 use Rattle.std.proofs.lemmas.Bool.{eqb-true}
@@ -13,7 +13,6 @@ use Rattle.ch_reader.specs.declared.item.Item.TheVariants as items
 use Rattle.ch_light.proofs.Lists.{set_here, set_other}
 use Rattle.ch_link.specs.declared.LinkState.{LinkState}
 use Rattle.ch_link.specs.declared.LinkState.TheVariants.{Dialing, Up}
-use Rattle.ch_model.specs.declared.name.End.{End}
 use Rattle.ch_model.specs.declared.name.End.TheVariants.{O, T}
 use Rattle.ch_model.specs.declared.step.Step.{Step}
 use Rattle.ch_model.specs.declared.step.Step.TheVariants as steps
@@ -24,23 +23,23 @@ use Rattle.ch_model.specs.HostSteps as host
 use Rattle.ch_model.specs.HostSteps.{is_socket, with_link, with_socket}
 use Rattle.ch_model.specs.HostWrites.{frame_step, ended_in}
 use Rattle.ch_model.specs.HostItems.{is_mismatch}
-use Rattle.ch_model.specs.WorldState.{Cell, WorldEnd, WorldSocket, World}
+use Rattle.ch_model.specs.WorldState.{Cell, WorldSocket, World}
 use Rattle.ch_model.specs.WorldSockets as world
 use Rattle.ch_model.specs.WorldSockets.{end_of, with_end, is_end_of}
-use Rattle.ch_model.specs.WorldSteps.{first_place, stepped, all_told}
+use Rattle.ch_model.specs.WorldSteps.{all_told}
 use Rattle.ch_race.specs.Pair as pair
 use Rattle.ch_race.specs.Pair.{Side, other, is_greater, Sock, Pair, put, point}
 use Rattle.ch_race.specs.Moves.{Read_t, run, after}
-use Rattle.ch_laws_race.specs.Scene.{Scene, hosts_of, host_of, link_of, after_steps}
+use Rattle.ch_laws_race.specs.Scene.{Scene, hosts_of, host_of, link_of}
 use Rattle.ch_laws_race.specs.View.{kind, Reader, reader_at, opener_of, place_of, with_places, is_shut, sock_of, seen, view}
-use Rattle.ch_laws_race.specs.Sound.{Acts, AreApart, HasEnd, AreFrames, TakesItem, opener_by}
+use Rattle.ch_laws_race.specs.Sound.{Acts, AreApart, HasEnd, AreFrames, TakesItem}
 use Rattle.ch_laws_race.specs.Reading.{Reads, IsSeen, reads_front}
 use Rattle.ch_laws_race.specs.Answers.{AreData, each_said}
 use Rattle.ch_laws_race.specs.Requests.{request_to, accepts_and_says}
 use Rattle.ch_laws_race.proofs.Keys.{link_named, socket_kept, other_socket}
 use Rattle.ch_laws_race.proofs.Sockets.{by_test, same_place, other_place, given, Alike, alike_self, alike_with, end_alike, set_apart, ends_differ, no_other_end, place_found, set_same}
 use Rattle.ch_laws_race.proofs.Views.{at_place, host_here, hosts_set, Kept, kept_all, kept_link, kept_socket}
-use Rattle.ch_laws_race.proofs.Pairs.{put_here, put_put, put_over, piled, point_own}
+use Rattle.ch_laws_race.proofs.Pairs.{put_here, put_put, piled, point_own}
 use Rattle.ch_laws_race.proofs.Steps.{arrived_alike, writes_there, leaves_there, up_there}
 use Rattle.ch_laws_race.proofs.Socks.{sock_by, upped, end_of_own, says_at}
 use Rattle.ch_laws_race.proofs.Many.{write_all, says_all, all_wrote, all_alike, writes_all, said_all, may_say}

@@ -20,3 +20,10 @@ pub mod Grown
 pub mod Asks
 pub mod Dials
 pub mod Joined
+pub mod Come
+pub mod Apart
+pub mod Fed
+pub mod Calls
+pub mod Happens
+pub mod Same
+pub mod InTurn

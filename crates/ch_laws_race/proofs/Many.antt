@@ -1,6 +1,5 @@
 -- What waits for a link is written, frame by frame.
-use mathlib.Core.Path.{fun_ext}
-use Rattle.std.specs.Prelude.{◌≡◌, ℕ, Bool, true, false, cond, ◌||◌, nat_eq, List, [], ◌∷◌, ◌++◌, map, is_some, slice_get, slice_set, Option, Some, None}
+use Rattle.std.specs.Prelude.{◌≡◌, ℕ, Bool, true, false, cond, ◌||◌, List, [], ◌∷◌, ◌++◌, map, is_some, slice_get, slice_set, Option, Some}
 use Rattle.std.proofs.Common.{refl, ap, sym, ◌∙◌, subst, append_assoc}
 use Rattle.std.proofs.lemmas.List.{append-nil}
 use Rattle.std.proofs.lemmas.Grind.{flat_map-append}
@@ -28,10 +27,10 @@ use Rattle.ch_race.specs.Pair as pair
 use Rattle.ch_race.specs.Pair.{Side, Sock, Pair, put, says}
 use Rattle.ch_race.specs.Moves.{run, AllAllowed, say}
 use Rattle.ch_laws_race.specs.Scene.{Party}
-use Rattle.ch_laws_race.specs.View.{Reader, frame_kind, opener_of}
+use Rattle.ch_laws_race.specs.View.{Reader, opener_of}
 use Rattle.ch_laws_race.specs.Sound.{AreApart, HasPlace, HasPlaces, opener_by}
 use Rattle.ch_laws_race.specs.Answers.{AreData, each_said}
-use Rattle.ch_laws_race.proofs.Sockets.{by_test, Alike}
+use Rattle.ch_laws_race.proofs.Sockets.{Alike}
 use Rattle.ch_laws_race.proofs.Pairs.{put_here, put_put, put_same}
 use Rattle.ch_laws_race.proofs.Steps.{arrived_alike, writes_there}
 use Rattle.ch_laws_race.proofs.Socks.{sock_by, wrote, follows_more}

@@ -1,10 +1,8 @@
 -- What is seen after a host's steps at one socket.
-use Rattle.std.specs.Prelude.{◌≡◌, ℕ, Bool, true, false, cond, List, [], ◌∷◌, find, slice_get, slice_set, Option, Some, None}
+use Rattle.std.specs.Prelude.{◌≡◌, ℕ, true, false, cond, List, find, slice_set, Option, Some}
 use Rattle.std.proofs.Common.{refl, ap, sym, ◌∙◌}
 use Rattle.ch_reader.specs.declared.item.Expected.{Expected}
-use Rattle.ch_reader.specs.declared.item.Expected.TheVariants as expected
 use Rattle.ch_link.specs.declared.LinkState.{LinkState}
-use Rattle.ch_link.specs.declared.LinkState.TheVariants.{Idle, Dialing, AwaitOther, Up}
 use Rattle.ch_model.specs.declared.name.End.{End}
 use Rattle.ch_model.specs.declared.name.End.TheVariants.{O, T}
 use Rattle.ch_model.specs.declared.step.Place.{Place}
@@ -12,17 +10,16 @@ use Rattle.ch_model.specs.declared.step.Step.{Step}
 use Rattle.ch_model.specs.declared.step.Step.TheVariants as steps
 use Rattle.ch_model.specs.HostState.{Socket, HostState}
 use Rattle.ch_model.specs.HostSteps.{is_socket}
-use Rattle.ch_model.specs.Same.{is_between}
-use Rattle.ch_model.specs.WorldState.{Cell, WorldEnd, WorldSocket, World}
+use Rattle.ch_model.specs.WorldState.{Cell, WorldSocket, World}
 use Rattle.ch_model.specs.WorldSockets.{end_of, with_end, is_end_of}
 use Rattle.ch_model.specs.WorldSockets as world
 use Rattle.ch_model.specs.WorldSteps.{first_place, stepped}
 use Rattle.ch_model.specs.WorldHappenings.{with_cell}
-use Rattle.ch_race.specs.Pair.{Side, Lesser, Greater, other, Sock, Pair, dead, put, point}
-use Rattle.ch_laws_race.specs.Scene.{Party, Scene, hosts_of, host_of, done_by, after_steps}
+use Rattle.ch_race.specs.Pair.{Side, other, Sock, Pair, dead, put, point}
+use Rattle.ch_laws_race.specs.Scene.{Party, Scene, hosts_of, done_by, after_steps}
 use Rattle.ch_laws_race.specs.View.{Reader, reader_of, reader_at, sock_of, sock_seen, place_of, with_places, seen, view}
 use Rattle.ch_laws_race.specs.Sound.{Acts, HasEnd, first_of}
-use Rattle.ch_laws_race.proofs.Sockets.{by_test, Alike, alike_self, at_alike, end_alike, ends_differ, place_found, set_same}
+use Rattle.ch_laws_race.proofs.Sockets.{by_test, Alike, alike_self, end_alike, ends_differ, place_found, set_same}
 use Rattle.ch_laws_race.proofs.Views.{at_place, host_here, hosts_set, Kept, own_reader, reader_same, seen_changed}
 use Rattle.ch_laws_race.proofs.Steps.{one_read, reads_there}
 use Rattle.ch_laws_race.proofs.Socks.{sock_by}

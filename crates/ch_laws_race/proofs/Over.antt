@@ -1,5 +1,5 @@
 -- The end of input, as moves.
-use Rattle.std.specs.Prelude.{◌≡◌, ◌⊎◌, ℕ, Bool, true, false, cond, nat_eq, List, [], ◌∷◌, ◌++◌, find, is_some, slice_set, Option, Some, None, Ok, if◌then◌else◌}
+use Rattle.std.specs.Prelude.{◌≡◌, ◌⊎◌, ℕ, Bool, true, false, cond, List, [], ◌∷◌, find, slice_set, Option, Some, None, Ok, if◌then◌else◌}
 use Rattle.std.proofs.Common.{refl, ap, sym, ◌∙◌, subst, inl, inr}
 use Rattle.ch_base.specs.declared.address.Address.{Address}
 use Rattle.ch_base.specs.declared.event.Event.TheVariants as events
@@ -9,7 +9,7 @@ use Rattle.ch_reader.specs.declared.item.Expected.TheVariants as expected
 use Rattle.ch_link.specs.Table.{step_of}
 use Rattle.ch_link.specs.Sockets.{names}
 use Rattle.ch_link.specs.declared.LinkState.{LinkState}
-use Rattle.ch_link.specs.declared.LinkState.TheVariants.{Idle, Dialing, AwaitOther, Up}
+use Rattle.ch_link.specs.declared.LinkState.TheVariants.{Idle, Dialing, Up}
 use Rattle.ch_link.specs.declared.LinkIn.TheVariants as inputs
 use Rattle.ch_model.specs.declared.name.End.{End}
 use Rattle.ch_model.specs.declared.name.End.TheVariants.{O, T}
@@ -26,13 +26,13 @@ use Rattle.ch_model.specs.Host.{host_on}
 use Rattle.ch_model.specs.WorldState.{Cell, WorldSocket, World}
 use Rattle.ch_model.specs.WorldSockets as world
 use Rattle.ch_model.specs.WorldSockets.{end_of, with_end}
-use Rattle.ch_model.specs.WorldSteps.{stepped, all_told}
+use Rattle.ch_model.specs.WorldSteps.{all_told}
 use Rattle.ch_race.specs.Pair as pair
 use Rattle.ch_race.specs.Pair.{Side, other, is_greater, Sock, Pair, put, point}
-use Rattle.ch_race.specs.Moves.{Allowed, End_o, End_t, IsOpen_o, IsOpen_t, gone_o, gone_t, hears, obeys, after, run}
-use Rattle.ch_laws_race.specs.Scene.{Party, Scene, hosts_of, host_of, link_of, after_steps, done_by}
+use Rattle.ch_race.specs.Moves.{Allowed, IsOpen_o, IsOpen_t, hears, obeys, after}
+use Rattle.ch_laws_race.specs.Scene.{Scene, hosts_of, host_of, link_of, after_steps, done_by}
 use Rattle.ch_laws_race.specs.View.{Reader, reader_of, reader_at, unread_at, opener_end, target_end, sock_of, place_of, with_places, view}
-use Rattle.ch_laws_race.specs.Sound.{Acts, HasEnd, first_of, opener_by}
+use Rattle.ch_laws_race.specs.Sound.{first_of, opener_by}
 use Rattle.ch_laws_race.specs.Reading.{IsUser, IsSeen}
 use Rattle.ch_laws_race.specs.Ends.{InputEnds, end_at, input_ends}
 use Rattle.ch_laws_race.proofs.Keys.{link_named, socket_kept}
@@ -55,18 +55,18 @@ loses_up : (link : Link) (sock : ℕ) (probed : Bool) (now : HostState) → link
 unfolding step_of
 loses_up link sock probed now up = ap (λ (k : LinkState). gone_from sock (record link { state = k }) now) up
     ∙ ap (λ b. if b then links.hears inputs.Gone (record link { state = Up sock probed }) now else leaves sock now) (self_number sock) ∙ told link where
-  told : (l : Link) → links.hears inputs.Gone (record l { state = Up sock probed }) now
-      ≡ Ok (steps.Down sock ∷ told_lost l, with_link (forgotten l Idle) (end_socket sock (with_link (record l { state = Idle }) now)))
-  told l = refl
+      told : (l : Link) → links.hears inputs.Gone (record l { state = Up sock probed }) now
+          ≡ Ok (steps.Down sock ∷ told_lost l, with_link (forgotten l Idle) (end_socket sock (with_link (record l { state = Idle }) now)))
+      told l = refl
 
 loses_dial : (link : Link) (sock : ℕ) (now : HostState) → link.state ≡ Dialing sock → gone_from sock link now
     ≡ Ok (steps.Left sock ∷ told_lost link, with_link (forgotten link Idle) (end_socket sock (with_link (record link { state = Idle }) now)))
 unfolding step_of
 loses_dial link sock now dials = ap (λ (k : LinkState). gone_from sock (record link { state = k }) now) dials
     ∙ ap (λ b. if b then links.hears inputs.Gone (record link { state = Dialing sock }) now else leaves sock now) (self_number sock) ∙ told link where
-  told : (l : Link) → links.hears inputs.Gone (record l { state = Dialing sock }) now
-      ≡ Ok (steps.Left sock ∷ told_lost l, with_link (forgotten l Idle) (end_socket sock (with_link (record l { state = Idle }) now)))
-  told l = refl
+      told : (l : Link) → links.hears inputs.Gone (record l { state = Dialing sock }) now
+          ≡ Ok (steps.Left sock ∷ told_lost l, with_link (forgotten l Idle) (end_socket sock (with_link (record l { state = Idle }) now)))
+      told l = refl
 
 -- ---- the pair
 
@@ -145,12 +145,21 @@ module _ (scene : Scene) (x : Side) (cell : Cell × ℕ) (e : End) (i : ℕ) (s 
     allowed_at : (f : End) → V.sock i ≡ sock_by scene.party f (known.expected, known.since) Theirs s → (end_of f s).stage ≡ Open → unread_at (known.expected, known.since) (end_of f s) ≡ []
         → (((end_of f s).is_cut ≡ true) ⊎ ((end_of (world.other f) s).stage ≡ Ended)) → Allowed (end_at f i) V
     allowed_at O same standing empty (inl cut) = (subst IsOpen_o (sym (ap (λ (z : Sock). z.o) same ∙ ap (λ (z : Stage). opener_end z known.expected) standing)) (opens_o known.expected), ap (λ (z : Sock). z.in_o) same ∙ empty, inl (ap (λ (z : Sock). z.cut_o) same ∙ cut))
-    allowed_at O same standing empty (inr over) = (subst IsOpen_o (sym (ap (λ (z : Sock). z.o) same ∙ ap (λ (z : Stage). opener_end z known.expected) standing)) (opens_o known.expected), ap (λ (z : Sock). z.in_o) same ∙ empty,
-      inr (ap (λ (z : Sock). z.t) same ∙ ap (λ b. target_end b s.t.stage Theirs.0) h.has.target ∙ ap (λ (z : Stage). target_end true z Theirs.0) over))
-    allowed_at T same standing empty (inl cut) = (subst IsOpen_t (sym (ap (λ (z : Sock). z.t) same ∙ ap (λ b. target_end b s.t.stage known.expected) h.has.target ∙ ap (λ (z : Stage). target_end true z known.expected) standing)) (opens_t known.expected),
-      ap (λ (z : Sock). z.in_t) same ∙ empty, inl (ap (λ (z : Sock). z.cut_t) same ∙ cut))
-    allowed_at T same standing empty (inr over) = (subst IsOpen_t (sym (ap (λ (z : Sock). z.t) same ∙ ap (λ b. target_end b s.t.stage known.expected) h.has.target ∙ ap (λ (z : Stage). target_end true z known.expected) standing)) (opens_t known.expected),
-      ap (λ (z : Sock). z.in_t) same ∙ empty, inr (ap (λ (z : Sock). z.o) same ∙ ap (λ (z : Stage). opener_end z Theirs.0) over))
+    allowed_at O same standing empty (inr over) = (
+      subst IsOpen_o (sym (ap (λ (z : Sock). z.o) same ∙ ap (λ (z : Stage). opener_end z known.expected) standing)) (opens_o known.expected),
+      ap (λ (z : Sock). z.in_o) same ∙ empty,
+      inr (ap (λ (z : Sock). z.t) same ∙ ap (λ b. target_end b s.t.stage Theirs.0) h.has.target ∙ ap (λ (z : Stage). target_end true z Theirs.0) over),
+    )
+    allowed_at T same standing empty (inl cut) = (
+      subst IsOpen_t (sym (ap (λ (z : Sock). z.t) same ∙ ap (λ b. target_end b s.t.stage known.expected) h.has.target ∙ ap (λ (z : Stage). target_end true z known.expected) standing)) (opens_t known.expected),
+      ap (λ (z : Sock). z.in_t) same ∙ empty,
+      inl (ap (λ (z : Sock). z.cut_t) same ∙ cut),
+    )
+    allowed_at T same standing empty (inr over) = (
+      subst IsOpen_t (sym (ap (λ (z : Sock). z.t) same ∙ ap (λ b. target_end b s.t.stage known.expected) h.has.target ∙ ap (λ (z : Stage). target_end true z known.expected) standing)) (opens_t known.expected),
+      ap (λ (z : Sock). z.in_t) same ∙ empty,
+      inr (ap (λ (z : Sock). z.o) same ∙ ap (λ (z : Stage). opener_end z Theirs.0) over),
+    )
 
   over_alike : Alike s Over
   over_alike = alike_with e s s (world.ended (end_of e s)) (alike_self s) refl refl

@@ -1,10 +1,9 @@
 -- Changes of a pair, one after another.
 use mathlib.Core.Path.{fun_ext}
 use Rattle.std.specs.Prelude.{◌≡◌, ℕ, Bool, true, false, cond, nat_eq}
-use Rattle.std.proofs.Common.{refl, ap, sym, ◌∙◌, arith}
-use Rattle.std.proofs.lemmas.Bool.Decides.{nat_tests}
+use Rattle.std.proofs.Common.{refl, ap, sym, ◌∙◌}
 use Rattle.ch_link.specs.declared.LinkState.{LinkState}
-use Rattle.ch_race.specs.Pair.{Side, Lesser, Greater, other, same, Sock, Pair, put, point}
+use Rattle.ch_race.specs.Pair.{Side, Lesser, Greater, same, Sock, Pair, put, point}
 use Rattle.ch_laws_race.proofs.Sockets.{by_test, same_place}
 use Rattle.ch_laws_race.proofs.Views.{self_number}
 

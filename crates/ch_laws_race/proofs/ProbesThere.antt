@@ -1,8 +1,7 @@
 -- A request that a node reads while it is up elsewhere and isn't probed, as a move: it crosses, and probes there.
-use Rattle.std.specs.Prelude.{◌≡◌, ℕ, Bool, true, false, ◌==◌, nat_eq, List, [], ◌∷◌, map, find, slice_get, slice_set, Option, Some, None, Ok}
+use Rattle.std.specs.Prelude.{◌≡◌, ℕ, true, false, ◌==◌, nat_eq, List, [], ◌∷◌, map, find, slice_get, slice_set, Option, Some, None, Ok}
 use Rattle.std.proofs.Common.{refl, ap, sym, ◌∙◌}
 use Rattle.std.proofs.lemmas.Bool.{eqb-true, eq-eqb, and_parts}
-use Rattle.std.proofs.lemmas.Option.{slice_get_within}
 use Rattle.ch_base.specs.declared.address.Address.{Address}
 use Rattle.ch_wire.specs.Spelling.{answer_spelling, frame_spelling}
 use Rattle.ch_wire.specs.declared.frame.Frame.TheVariants as frames
@@ -10,35 +9,32 @@ use Rattle.ch_wire.specs.declared.answer.Answer.TheVariants as answers
 use Rattle.ch_reader.specs.declared.item.Expected.TheVariants as expected
 use Rattle.ch_reader.specs.declared.item.Item.{Item}
 use Rattle.ch_reader.specs.declared.item.Item.TheVariants as items
-use Rattle.ch_light.proofs.Lists.{set_here, set_other}
+use Rattle.ch_light.proofs.Lists.{set_other}
 use Rattle.ch_link.specs.declared.LinkState.{LinkState}
-use Rattle.ch_link.specs.declared.LinkState.TheVariants.{Dialing, Up}
+use Rattle.ch_link.specs.declared.LinkState.TheVariants.{Up}
 use Rattle.ch_model.specs.declared.name.End.{End}
 use Rattle.ch_model.specs.declared.name.End.TheVariants.{O, T}
-use Rattle.ch_model.specs.declared.step.Step.{Step}
 use Rattle.ch_model.specs.declared.step.Step.TheVariants as steps
 use Rattle.ch_model.specs.Stages.{Ended}
 use Rattle.ch_model.specs.CellSteps.{told_steps}
 use Rattle.ch_model.specs.HostState.{Link, Socket, HostState}
 use Rattle.ch_model.specs.HostSteps as host
 use Rattle.ch_model.specs.HostSteps.{is_socket, link_with, with_link, with_socket}
-use Rattle.ch_model.specs.HostWrites.{frame_step, ended_in}
 use Rattle.ch_model.specs.HostItems.{is_mismatch}
 use Rattle.ch_model.specs.WorldState.{Cell, WorldEnd, WorldSocket, World}
 use Rattle.ch_model.specs.WorldSockets as world
 use Rattle.ch_model.specs.WorldSockets.{end_of, with_end, is_end_of, same_number, item_arrives}
-use Rattle.ch_model.specs.WorldSteps.{first_place, stepped, all_told}
+use Rattle.ch_model.specs.WorldSteps.{stepped, all_told}
 use Rattle.ch_race.specs.Pair as pair
 use Rattle.ch_race.specs.Pair.{Side, other, Sock, Pair, put, point, says}
 use Rattle.ch_race.specs.Moves.{Read_t}
-use Rattle.ch_laws_race.specs.Scene.{Scene, hosts_of, host_of, link_of, after_steps}
+use Rattle.ch_laws_race.specs.Scene.{Scene, hosts_of, host_of, link_of}
 use Rattle.ch_laws_race.specs.View.{kind, Reader, reader_of, reader_at, opener_of, place_of, with_places, is_shut, sock_of, seen, view}
 use Rattle.ch_laws_race.specs.Sound.{Acts, AreApart, HasEnd, TakesItem, first_of, opener_by}
 use Rattle.ch_laws_race.specs.Reading.{Reads, IsSeen, reads_front}
-use Rattle.ch_laws_race.specs.Answers.{AreData}
 use Rattle.ch_laws_race.specs.Requests.{request_to}
 use Rattle.ch_laws_race.proofs.Keys.{socket_kept, other_socket, wrong}
-use Rattle.ch_laws_race.proofs.Sockets.{by_test, same_place, other_place, given, Alike, alike_self, alike_with, end_alike, set_apart, ends_differ, no_other_end, place_found, set_same}
+use Rattle.ch_laws_race.proofs.Sockets.{by_test, same_place, other_place, given, Alike, alike_self, set_apart, no_other_end, place_found, set_same}
 use Rattle.ch_laws_race.proofs.Views.{at_place, host_here, hosts_set, Kept, kept_all, own_reader}
 use Rattle.ch_laws_race.proofs.Pairs.{point_point}
 use Rattle.ch_laws_race.proofs.Steps.{arrived_alike, writes_there, leaves_there}

@@ -1,5 +1,5 @@
 -- What all readings of an item have in common.
-use Rattle.std.specs.Prelude.{◌≡◌, ℕ, Bool, true, false, cond, ◌||◌, List, [], ◌∷◌, ◌++◌, map, find, is_some, nat_lt, slice_set, Option, Some, None, Result, Ok, Err, if◌then◌else◌}
+use Rattle.std.specs.Prelude.{◌≡◌, ℕ, Bool, true, false, ◌||◌, List, [], ◌∷◌, ◌++◌, map, find, is_some, nat_lt, slice_set, Option, Some, None, Result, Ok, Err, if◌then◌else◌}
 use Rattle.std.proofs.Common.{refl, ap, sym, ◌∙◌, subst}
 use Rattle.ch_base.specs.declared.address.Address.{Address}
 use Rattle.ch_reader.specs.declared.item.Expected.{Expected}
@@ -37,16 +37,16 @@ use Rattle.ch_race.specs.Pair as pair
 use Rattle.ch_race.specs.Pair.{Side, other, Sock, Pair, put, point, says}
 use Rattle.ch_race.specs.Moves.{Allowed, run}
 use Rattle.ch_link.specs.declared.LinkState.{LinkState}
-use Rattle.ch_link.specs.declared.LinkState.TheVariants.{Idle, Dialing, AwaitOther, Up}
+use Rattle.ch_link.specs.declared.LinkState.TheVariants.{Idle, Up}
 use Rattle.ch_laws_race.specs.Scene.{Party, Scene, hosts_of, host_of, link_of, after_steps}
-use Rattle.ch_laws_race.specs.View.{kind, Reader, reader_of, reader_at, unread_at, whole_items, opener_end, target_end, opener_of, sock_of, place_of, with_places, view}
-use Rattle.ch_laws_race.specs.Sound.{Acts, HasEnd, HasPlace, TakesItem, first_of, opener_by}
+use Rattle.ch_laws_race.specs.View.{kind, Reader, reader_of, reader_at, unread_at, opener_end, target_end, opener_of, sock_of, place_of, with_places, view}
+use Rattle.ch_laws_race.specs.Sound.{Acts, HasPlace, TakesItem, first_of}
 use Rattle.ch_laws_race.specs.Reading.{Reads, IsUser, IsSeen, read_at, reads_front}
 use Rattle.ch_laws_race.proofs.Items.{stream_items}
 use Rattle.ch_laws_race.proofs.Sockets.{Alike, alike_self, alike_with}
 use Rattle.ch_laws_race.proofs.Views.{own_reader, kept_arrival, arrival_sockets, Kept, kept_all, kept_link, kept_socket}
 use Rattle.ch_laws_race.proofs.Keys.{link_named, socket_kept}
-use Rattle.ch_laws_race.proofs.Steps.{one_read, arrived_alike, writes_there, leaves_there, goes_down_there, up_there}
+use Rattle.ch_laws_race.proofs.Steps.{one_read, arrived_alike, writes_there, leaves_there, goes_down_there}
 use Rattle.ch_laws_race.proofs.Socks.{sock_by, upped, wrote, read_there, ended_at, gone_there, end_of_own}
 use Rattle.ch_laws_race.proofs.Readings.{taken, takes_front, left_behind, IsUp, unread, leaving, reads_probe, reads_ack, reads_closed, reads_data}
 use Rattle.ch_laws_race.proofs.Heard.{acknowledges, settles, told_failed, fails_up, acknowledged, settled, closed}

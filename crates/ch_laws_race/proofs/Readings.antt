@@ -1,30 +1,25 @@
 -- An item that is read: what the host takes, and what the pair's move is.
-use Rattle.std.specs.Prelude.{◌≡◌, ℕ, Bool, true, false, cond, List, [], ◌∷◌, ◌++◌, length, drop, map, slice_get, Option, Some, None}
-use Rattle.std.proofs.Common.{refl, ap, sym, ◌∙◌, append_assoc, arith}
-use Rattle.std.proofs.lemmas.Bool.Decides.{nat_tests}
+use Rattle.std.specs.Prelude.{◌≡◌, ℕ, List, [], ◌∷◌, ◌++◌, length, drop, map}
+use Rattle.std.proofs.Common.{refl, ap, sym, ◌∙◌, append_assoc}
 use Rattle.ch_reader.specs.declared.item.Expected.{Expected}
 use Rattle.ch_reader.specs.declared.item.Expected.TheVariants as expected
 use Rattle.ch_reader.specs.declared.item.Front.{Front}
-use Rattle.ch_reader.specs.declared.item.Front.TheVariants.{Whole}
 use Rattle.ch_reader.specs.declared.item.Item.{Item}
-use Rattle.ch_reader.specs.Items.{item_spelling, spellings, MayFollow, MayStand, expected_after}
+use Rattle.ch_reader.specs.Items.{item_spelling, spellings, MayStand, expected_after}
 use Rattle.ch_reader.specs.Streams.{IsUnfinished, IsStreamFrom}
 use Rattle.ch_reader.specs.Reading.{reading}
 use Rattle.ch_reader.proofs.Complete.{reads_item}
 use Rattle.ch_link.specs.Table.{step_of}
-use Rattle.ch_link.specs.declared.LinkState.{LinkState}
-use Rattle.ch_link.specs.declared.LinkState.TheVariants.{Up}
 use Rattle.ch_link.specs.declared.LinkIn.TheVariants as inputs
 use Rattle.ch_link.specs.declared.LinkAnswer.TheVariants as answers
 use Rattle.ch_model.specs.declared.name.End.{End}
 use Rattle.ch_model.specs.declared.name.End.TheVariants.{O, T}
 use Rattle.ch_model.specs.HostState.{Socket, HostState}
-use Rattle.ch_model.specs.HostSteps.{Stepped}
 use Rattle.ch_model.specs.Host.{front_of, takes, handles}
 use Rattle.ch_race.specs.Pair as pair
 use Rattle.ch_race.specs.Pair.{Side, Lesser, Greater, other, OEnd, OAsking, OUp, TEnd, TOpen, TUp, Sock, Pair, put, point}
-use Rattle.ch_race.specs.Moves.{Read_o, Read_t, asked, read_o, read_t, hears, obeys, after}
-use Rattle.ch_laws_race.specs.View.{kind, Reader, whole_items}
+use Rattle.ch_race.specs.Moves.{Read_o, Read_t, asked, read_o, read_t, hears, after}
+use Rattle.ch_laws_race.specs.View.{kind, whole_items}
 use Rattle.ch_laws_race.specs.Sound.{opener_by}
 use Rattle.ch_laws_race.specs.Reading.{read_at}
 use Rattle.ch_laws_race.proofs.Items.{stream_items}

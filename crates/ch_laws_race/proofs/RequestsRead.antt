@@ -19,7 +19,7 @@ use Rattle.ch_link.specs.Table.{step_of}
 use Rattle.ch_link.specs.declared.LinkState.{LinkState}
 use Rattle.ch_link.specs.declared.LinkState.TheVariants.{Idle, Dialing, AwaitOther, Up}
 use Rattle.ch_link.specs.declared.LinkIn.TheVariants as inputs
-use Rattle.ch_model.specs.declared.name.End.TheVariants.{O, T}
+use Rattle.ch_model.specs.declared.name.End.TheVariants.{T}
 use Rattle.ch_model.specs.declared.step.Step.{Step}
 use Rattle.ch_model.specs.declared.step.Step.TheVariants as steps
 use Rattle.ch_model.specs.declared.step.Weight.{Weight}
@@ -31,7 +31,7 @@ use Rattle.ch_model.specs.HostSteps.{Stepped, own_address, is_socket, is_open_en
 use Rattle.ch_model.specs.HostWrites.{frame_step, end_socket, ended_in, answers_and_leaves}
 use Rattle.ch_model.specs.Greater as addresses
 use Rattle.ch_model.specs.HostLinks as links
-use Rattle.ch_model.specs.HostItems.{is_mismatch, refusal_of, asks_link}
+use Rattle.ch_model.specs.HostItems.{is_mismatch, refusal_of}
 use Rattle.ch_model.specs.WorldState.{Cell, WorldEnd, WorldSocket, World}
 use Rattle.ch_model.specs.WorldSockets as world
 use Rattle.ch_model.specs.WorldSockets.{end_of, with_end, item_arrives}
@@ -41,7 +41,7 @@ use Rattle.ch_race.specs.Pair.{Side, other, is_greater, TEnd, TOpen, Sock, Pair,
 use Rattle.ch_race.specs.Moves.{Read_t, run, after, asked, hears}
 use Rattle.ch_laws_race.specs.Scene.{Scene, hosts_of, host_of, link_of, after_steps}
 use Rattle.ch_laws_race.specs.View.{kind, Reader, reader_at, target_end, place_of, with_places, is_shut, sock_of, view}
-use Rattle.ch_laws_race.specs.Sound.{Acts, HasPlace, HasPlaces, AreFrames, TakesItem, first_of}
+use Rattle.ch_laws_race.specs.Sound.{Acts, HasPlace, HasPlaces, AreFrames, TakesItem}
 use Rattle.ch_laws_race.specs.Reading.{Reads, IsSeen, reads_front}
 use Rattle.ch_laws_race.specs.Answers.{AreData, each_said}
 use Rattle.ch_laws_race.specs.Requests.{request_to, accepts_and_says}

@@ -1,5 +1,5 @@
 -- The world's sockets by name, by number and by place.
-use Rattle.std.specs.Prelude.{◌≡◌, ◌≢◌, ◌<◌, ℕ, zero, suc, Bool, true, false, cond, ◌&&◌, ◌==◌, nat_eq, List, [], ◌∷◌, length, find, is_some, slice_get, slice_set, Option, Some, None}
+use Rattle.std.specs.Prelude.{◌≡◌, ◌≢◌, ℕ, zero, suc, Bool, true, false, cond, ◌&&◌, ◌==◌, nat_eq, List, [], ◌∷◌, find, is_some, slice_get, slice_set, Option, Some, None}
 use Rattle.std.specs.Str.{bytes_eq}
 use Rattle.std.proofs.Common.{refl, ap, sym, ◌∙◌, subst, arith}
 use Rattle.std.proofs.lemmas.Bool.Decides.{nat_tests}
@@ -13,7 +13,7 @@ use Rattle.ch_model.specs.WorldState.{WorldEnd, WorldSocket, World}
 use Rattle.ch_model.specs.WorldSockets.{end_of, with_end, is_socket_named, store_in, with_socket, with_end_of, same_number, is_end_of, end_at, find_end}
 use Rattle.ch_laws_race.specs.View.{has_end, place_of}
 use Rattle.ch_laws_race.specs.Sound.{AreApart}
-use Rattle.ch_laws_race.proofs.Keys.{equal_bytes, equal_numbers, wrong}
+use Rattle.ch_laws_race.proofs.Keys.{equal_bytes, equal_numbers}
 
 pub by_test : {P : Type 0} (b : Bool) → (b ≡ true → P) → (b ≡ false → P) → P
 by_test true f g = f refl

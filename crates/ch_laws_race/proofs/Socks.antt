@@ -1,5 +1,5 @@
 -- A socket that is seen, after an item was read or written there.
-use Rattle.std.specs.Prelude.{◌≡◌, ℕ, Bool, true, false, cond, ◌||◌, List, [], ◌∷◌, ◌++◌, length, map, is_some, Option, Some, None}
+use Rattle.std.specs.Prelude.{◌≡◌, ℕ, Bool, true, false, cond, ◌||◌, List, [], ◌∷◌, ◌++◌, is_some, Option}
 use Rattle.std.proofs.Common.{refl, ap, sym, ◌∙◌, append_assoc, arith, inl}
 use Rattle.std.proofs.lemmas.List.{append-nil, map-append}
 use Rattle.std.proofs.lemmas.Grind.{flat_map-append}
@@ -21,7 +21,6 @@ use Rattle.ch_laws_race.specs.Scene.{Party}
 use Rattle.ch_laws_race.specs.View.{kind, Reader, unread_at, whole_items, opener_end, target_end, opener_of, sock_with}
 use Rattle.ch_laws_race.specs.Sound.{HasPlace, opener_by}
 use Rattle.ch_laws_race.proofs.Items.{stream_items}
-use Rattle.ch_laws_race.proofs.Sockets.{by_test}
 
 -- ---- an item is written
 
@@ -32,7 +31,7 @@ follows_more e (i ∷ is) item each next = (each.0, follows_more expected.Frame 
   later [] h = h
   later (j ∷ js) h = h
 
-nothing_left : (e : Expected) → IsUnfinished e []
+pub nothing_left : (e : Expected) → IsUnfinished e []
 nothing_left expected.Request = inl (omega arith)
 nothing_left expected.Answer = omega arith
 nothing_left expected.Frame = inl (omega arith)

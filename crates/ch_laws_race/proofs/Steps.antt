@@ -1,17 +1,16 @@
 -- What steps of a host do to the world's sockets.
 use Rattle.std.specs.Prelude.{◌≡◌, ℕ, Bool, true, false, cond, ◌||◌, List, [], ◌∷◌, ◌++◌, slice_get, slice_set, Option, Some, None}
-use Rattle.std.proofs.Common.{refl, ap, sym, ◌∙◌}
+use Rattle.std.proofs.Common.{refl, ap, ◌∙◌}
 use Rattle.std.proofs.lemmas.Option.{slice_get_within}
 use Rattle.ch_light.proofs.Lists.{set_here}
 use Rattle.ch_model.specs.declared.entry.Entry.{Entry}
 use Rattle.ch_model.specs.declared.name.End.{End}
-use Rattle.ch_model.specs.declared.name.End.TheVariants.{O, T}
 use Rattle.ch_model.specs.declared.name.SockName.{SockName}
 use Rattle.ch_model.specs.declared.step.Place.{Place}
 use Rattle.ch_model.specs.declared.step.Step.TheVariants as steps
 use Rattle.ch_model.specs.Stages.{is_ended}
 use Rattle.ch_model.specs.WorldState.{Cell, WorldEnd, WorldSocket, World}
-use Rattle.ch_model.specs.WorldSockets.{end_of, other, with_end, with_end_of, is_end_of, find_end, is_socket_named, ended, item_arrives}
+use Rattle.ch_model.specs.WorldSockets.{end_of, other, with_end, with_end_of, is_end_of, find_end, ended, item_arrives}
 use Rattle.ch_model.specs.declared.entry.Entry.TheVariants as entries
 use Rattle.ch_model.specs.WorldSteps.{on_end, first_place, later_places, item_is_read, reads_item, stepped, end_closes}
 use Rattle.ch_laws_race.specs.Sound.{AreApart}
@@ -35,7 +34,6 @@ arrived_alike e s t bytes said a = alike_with e s t (item_arrives bytes said (en
 -- a world whose i-th socket is s; a cell has its end e under a number
 module _ (w : World) (i : ℕ) (first s : WorldSocket) (e : End) (place number : ℕ) (cell : Cell)
     (apart : AreApart w.sockets) (at : slice_get w.sockets i ≡ Some first) (alike : Alike first s) (own : is_end_of place number (end_of e first) ≡ true) where
-
   abbrev In : World
   In = record w { sockets = slice_set w.sockets i s }
 

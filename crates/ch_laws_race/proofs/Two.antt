@@ -1,6 +1,6 @@
 -- What is seen after changes at two sockets, one after the other.
 use mathlib.Core.Path.{fun_ext}
-use Rattle.std.specs.Prelude.{◌≡◌, ℕ, Bool, true, false, cond, ◌==◌, nat_eq, List, find, slice_get, slice_set, Option, Some}
+use Rattle.std.specs.Prelude.{◌≡◌, ℕ, Bool, true, false, cond, ◌==◌, nat_eq, List, find, slice_get, slice_set, Some}
 use Rattle.std.proofs.Common.{refl, ap, sym, ◌∙◌, subst}
 use Rattle.ch_link.specs.declared.LinkState.{LinkState}
 use Rattle.ch_model.specs.declared.name.End.{End}
@@ -12,9 +12,9 @@ use Rattle.ch_reader.specs.declared.item.Expected.{Expected}
 use Rattle.ch_model.specs.WorldState.{WorldEnd, WorldSocket}
 use Rattle.ch_model.specs.WorldSockets.{end_of, is_end_of}
 use Rattle.ch_model.specs.WorldSockets as world
-use Rattle.ch_race.specs.Pair.{Side, Lesser, Greater, other, Sock, Pair, put, point}
+use Rattle.ch_race.specs.Pair.{Side, Lesser, Greater, other, Sock, put, point}
 use Rattle.ch_laws_race.specs.Scene.{Party}
-use Rattle.ch_laws_race.specs.View.{Reader, reader_of, reader_at, sock_of, place_of, with_places, seen}
+use Rattle.ch_laws_race.specs.View.{Reader, reader_of, reader_at, place_of, with_places, seen}
 use Rattle.ch_laws_race.specs.Sound.{AreApart, first_of}
 use Rattle.ch_laws_race.proofs.Sockets.{by_test, Alike, end_alike, ends_differ}
 use Rattle.ch_laws_race.proofs.Views.{at_place, host_here, Kept, own_reader, reader_same, seen_changed}

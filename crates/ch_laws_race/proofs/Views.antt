@@ -2,7 +2,7 @@
 use mathlib.Core.Path.{fun_ext}
 use Rattle.std.specs.Prelude.{◌≡◌, ℕ, ◌+◌, Bool, true, false, cond, not, ◌&&◌, ◌||◌, ◌==◌, nat_eq, List, [], ◌∷◌, find, slice_get, slice_set, Option, Some, None}
 use Rattle.std.specs.List.{list_any}
-use Rattle.std.proofs.Common.{refl, ap, sym, ◌∙◌, subst, arith}
+use Rattle.std.proofs.Common.{refl, ap, sym, ◌∙◌, arith}
 use Rattle.std.proofs.lemmas.Bool.{eqb-true, and_parts}
 use Rattle.std.proofs.lemmas.Bool.Decides.{nat_tests}
 use Rattle.std.proofs.lemmas.Option.{slice_get_within}
@@ -24,7 +24,7 @@ use Rattle.ch_race.specs.Pair.{Side, Lesser, Greater, other, same, Sock, Pair, d
 use Rattle.ch_laws_race.specs.Scene.{Party, host_in, hosts_of}
 use Rattle.ch_laws_race.specs.View.{Reader, reader_of, record_of, reader_at, sock_with, sock_of, sock_seen, place_of, with_places, is_shut, seen}
 use Rattle.ch_laws_race.specs.Sound.{AreApart}
-use Rattle.ch_laws_race.proofs.Keys.{equal_numbers, link_kept, other_link, socket_kept, other_socket, wrong}
+use Rattle.ch_laws_race.proofs.Keys.{equal_numbers, link_kept, other_link, other_socket}
 use Rattle.ch_laws_race.proofs.Sockets.{by_test, given, none, same_place, other_place, Alike, no_other_end, places_stay}
 
 -- pairs that agree in all their parts are one
@@ -167,7 +167,6 @@ module _ (party : Side → Party) (x : Side) (hosts : ℕ → HostState) (now : 
     (apart : AreApart xs) (at : slice_get xs i ≡ Some s) (own : is_end_of (party x).place number (end_of e s) ≡ true)
     (between : is_between (party Lesser).name (party Greater).name s.name ≡ true) (alike : Alike s t)
     (kept : Kept number (party x).address.id (party (other x)).address (hosts (party x).place) now state) where
-
   abbrev P : ℕ
   P = (party x).place
 

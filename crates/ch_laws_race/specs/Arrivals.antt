@@ -1,20 +1,21 @@
--- A socket that is joined by its opener, and one that has come to its target.
-use Rattle.std.specs.Prelude.{◌≡◌, ℕ, ◌+◌, ◌*◌, Bool, true, false, List, find, slice_get, Option, Some, None, Ok}
+-- A socket that is joined by its opener, one that has come to its target, and bytes that are fed.
+use Rattle.std.specs.Prelude.{◌≡◌, ℕ, ◌+◌, ◌*◌, true, false, List, take, drop, find, slice_get, Some, None, Ok}
 use Rattle.std.specs.List.{list_any}
 use Rattle.ch_wire.specs.declared.request.Request.{Request}
 use Rattle.ch_reader.specs.declared.item.Expected.TheVariants as expected
 use Rattle.ch_reader.specs.declared.item.Item.TheVariants as items
 use Rattle.ch_link.specs.Sockets.{names}
+use Rattle.ch_model.specs.declared.name.End.{End}
 use Rattle.ch_model.specs.declared.name.End.TheVariants.{O, T}
 use Rattle.ch_model.specs.declared.step.Step.{Step}
 use Rattle.ch_model.specs.declared.step.SocketEvent.TheVariants as events
 use Rattle.ch_model.specs.Same.{is_between}
-use Rattle.ch_model.specs.Stages.{Pending}
+use Rattle.ch_model.specs.Stages.{Pending, Open}
 use Rattle.ch_model.specs.HostState.{Socket, HostState}
 use Rattle.ch_model.specs.HostSteps.{Stepped, is_socket}
 use Rattle.ch_model.specs.Host.{host_on}
 use Rattle.ch_model.specs.WorldState.{Cell, WorldSocket, World}
-use Rattle.ch_model.specs.WorldSockets.{opened, with_end_of}
+use Rattle.ch_model.specs.WorldSockets.{end_of, opened, with_end_of}
 use Rattle.ch_model.specs.WorldHappenings.{with_cell}
 use Rattle.ch_race.specs.Pair.{Side, Lesser, Greater, other}
 use Rattle.ch_race.specs.Moves.{Move, AllAllowed, run}
@@ -85,3 +86,20 @@ come_in scene x cell socket = with_end_of socket.name T (λ end. record (opened 
 -- what x's host does with it
 abbrev pub hears_come : Scene → Side → Cell × ℕ → WorldSocket → Stepped
 hears_come scene x cell socket = host_on (host_of scene x) (events.Came (next_accepted cell) socket.from_host)
+
+-- ---- fed
+
+-- Bytes are handed to x's end, whose host has it open.
+pub record Feeds (scene : Scene) (x : Side) (cell : Cell × ℕ) (e : End) (i : ℕ) (socket : WorldSocket) (known : Socket) : Type 0 where
+  pub acts : Acts scene x cell
+  pub has : HasEnd scene x e i known.number socket
+  pub kept : find (is_socket known.number) (host_of scene x).sockets ≡ Some known
+  pub stands : known.stage ≡ Open
+
+-- the world in which so many bytes were taken from those unread at an end
+abbrev pub fed_in : Scene → End → ℕ → WorldSocket → World
+fed_in scene e count socket = with_end_of socket.name e (λ end. record end { unread = drop count end.unread }) scene.world
+
+-- what x's host does with them
+abbrev pub hears_fed : Scene → Side → End → ℕ → WorldSocket → Socket → Stepped
+hears_fed scene x e count socket known = host_on (host_of scene x) (events.Fed known.number (take count (end_of e socket).unread))

@@ -8,3 +8,7 @@ pub mod Requests
 pub mod Ends
 pub mod Asks
 pub mod Arrivals
+pub mod Rows
+pub mod Calls
+pub mod Happenings
+pub mod Chains

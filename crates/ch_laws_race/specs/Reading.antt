@@ -1,5 +1,5 @@
 -- An item that is read, by a host that has it whole.
-use Rattle.std.specs.Prelude.{◌≡◌, ℕ, Bool, List, [], ◌∷◌, ◌++◌, Option, Some, Ok, find}
+use Rattle.std.specs.Prelude.{◌≡◌, ℕ, List, ◌∷◌, ◌++◌, Some, Ok, find}
 use Rattle.ch_reader.specs.declared.item.Item.{Item}
 use Rattle.ch_reader.specs.Items.{item_spelling}
 use Rattle.ch_reader.specs.Streams.{IsStreamFrom}

@@ -1,5 +1,5 @@
 -- What the target of a socket reads first: a request of the other node.
-use Rattle.std.specs.Prelude.{◌≡◌, ◌⊎◌, ℕ, Bool, true, false, ◌==◌, List, [], ◌∷◌, find, Some}
+use Rattle.std.specs.Prelude.{◌≡◌, ◌⊎◌, ℕ, true, false, ◌==◌, List, ◌∷◌, find, Some}
 use Rattle.ch_wire.specs.declared.answer.Answer.{Answer}
 use Rattle.ch_wire.specs.declared.answer.Answer.TheVariants as answers
 use Rattle.ch_wire.specs.declared.frame.Frame.TheVariants as frames
@@ -8,7 +8,6 @@ use Rattle.ch_reader.specs.declared.item.Item.TheVariants as items
 use Rattle.ch_link.specs.declared.LinkState.TheVariants.{Idle, Dialing, AwaitOther, Up}
 use Rattle.ch_model.specs.declared.name.End.{End}
 use Rattle.ch_model.specs.declared.name.End.TheVariants.{O, T}
-use Rattle.ch_model.specs.Stages.{Open}
 use Rattle.ch_model.specs.HostState.{Socket}
 use Rattle.ch_model.specs.HostSteps.{is_socket}
 use Rattle.ch_model.specs.HostItems.{is_mismatch}

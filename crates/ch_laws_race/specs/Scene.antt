@@ -1,5 +1,5 @@
 -- Two nodes of a world and their hosts, as far as the race for a socket goes.
-use Rattle.std.specs.Prelude.{ℕ, Bool, List, [], ◌==◌, Option, Some, None, slice_get, if◌then◌else◌}
+use Rattle.std.specs.Prelude.{ℕ, Bool, List, [], Option, Some, None, slice_get}
 use Rattle.ch_base.specs.declared.address.Address.{Address}
 use Rattle.ch_model.specs.declared.step.Step.{Step}
 use Rattle.ch_model.specs.HostState.{Link, HostState}

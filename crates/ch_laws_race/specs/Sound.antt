@@ -1,6 +1,5 @@
 -- What is asked of a scene, whatever happens next.
-use Rattle.std.specs.Prelude.{◌≡◌, ℕ, Bool, true, false, ◌||◌, ◌==◌, List, [], ◌∷◌, ◌++◌, Option, Some, None, is_some, slice_get}
-use Rattle.ch_base.specs.declared.address.Address.{Address}
+use Rattle.std.specs.Prelude.{◌≡◌, ℕ, true, false, ◌||◌, ◌==◌, List, [], ◌∷◌, ◌++◌, Some, is_some, slice_get}
 use Rattle.ch_wire.specs.Spelling.{IsFrame}
 use Rattle.ch_wire.specs.declared.frame.Frame.{Frame}
 use Rattle.ch_model.specs.declared.step.Weight.{Weight}
@@ -12,13 +11,13 @@ use Rattle.ch_model.specs.declared.name.End.{End}
 use Rattle.ch_model.specs.declared.name.End.TheVariants.{O, T}
 use Rattle.ch_model.specs.Greater as greater
 use Rattle.ch_model.specs.Same.{same_socket, is_between}
-use Rattle.ch_model.specs.Stages.{Stage, is_ended}
+use Rattle.ch_model.specs.Stages.{is_ended}
 use Rattle.ch_model.specs.HostState.{HostState}
 use Rattle.ch_model.specs.HostSteps.{own_address}
 use Rattle.ch_model.specs.WorldState.{Cell, WorldEnd, WorldSocket}
 use Rattle.ch_model.specs.WorldSockets.{end_of, is_end_of}
 use Rattle.ch_race.specs.Pair.{Side, Lesser, Greater, other, is_greater}
-use Rattle.ch_laws_race.specs.Scene.{Party, Scene, host_of}
+use Rattle.ch_laws_race.specs.Scene.{Scene, host_of}
 use Rattle.ch_laws_race.specs.View.{opener_of, Reader, reader_at}
 
 -- no two sockets have one name, and no two ends are of one cell under one number
