@@ -60,7 +60,7 @@ quiet journal log world x none g = record {
   agrees = λ s. subst (λ (v : Seen). At (has_host journal s.to) v (find (is_socket_named s) world.sockets)) (sym (unmoved log s x (none s))) (g.agrees s);
 }
 
-length_set : {X : Type 0} (xs : List X) (k : ℕ) (y : X) → length (slice_set xs k y) ≡ length xs
+pub length_set : {X : Type 0} (xs : List X) (k : ℕ) (y : X) → length (slice_set xs k y) ≡ length xs
 length_set [] k y = refl
 length_set (x ∷ xs) zero y = refl
 length_set (x ∷ xs) (suc k) y = ap suc (length_set xs k y)
@@ -101,18 +101,18 @@ changed journal log more world n old new is name cell others own g = record {
   by_name s false h = subst (λ (v : Seen). At (has_host journal s.to) v (find (is_socket_named s) world.sockets)) (sym (others s (subst (λ (m : SockName). same_socket m s ≡ false) name h))) (g.agrees s)
 
 -- what is changed of an end leaves it in its cell
-abbrev KeepsCell : (WorldEnd → WorldEnd) → Type 0
+abbrev pub KeepsCell : (WorldEnd → WorldEnd) → Type 0
 KeepsCell f = (end : WorldEnd) → (f end).cell ≡ end.cell
 
-cell_of_end : (e : End) (f : WorldEnd → WorldEnd) (old : WorldSocket) → KeepsCell f → (with_end e (f (end_of e old)) old).t.cell ≡ old.t.cell
+pub cell_of_end : (e : End) (f : WorldEnd → WorldEnd) (old : WorldSocket) → KeepsCell f → (with_end e (f (end_of e old)) old).t.cell ≡ old.t.cell
 cell_of_end O f old k = refl
 cell_of_end T f old k = k old.t
 
-name_of_end : (e : End) (end : WorldEnd) (old : WorldSocket) → (with_end e end old).name ≡ old.name
+pub name_of_end : (e : End) (end : WorldEnd) (old : WorldSocket) → (with_end e end old).name ≡ old.name
 name_of_end O end old = refl
 name_of_end T end old = refl
 
-with_end_is : (n : SockName) (e : End) (f : WorldEnd → WorldEnd) (world : World) (old : WorldSocket) → find (is_socket_named n) world.sockets ≡ Some old → with_end_of n e f world ≡ with_socket (with_end e (f (end_of e old)) old) world
+pub with_end_is : (n : SockName) (e : End) (f : WorldEnd → WorldEnd) (world : World) (old : WorldSocket) → find (is_socket_named n) world.sockets ≡ Some old → with_end_of n e f world ≡ with_socket (with_end e (f (end_of e old)) old) world
 with_end_is n e f world old is = ap (λ (o : Option WorldSocket). elim o as (λ o. World) [
   | None ↦ world
   | Some socket ↦ with_socket (with_end e (f (end_of e socket)) socket) world
@@ -365,13 +365,13 @@ read_kept journal log at world old is g = still journal log (item_is_read at (fi
       h : Good journal log (with_end_of at.0 at.1 (λ end. record end { places = later_places end.places }) world)
       h = end_changed_silently journal log world at.0 at.1 (λ end. record end { places = later_places end.places }) old is (λ end. refl) (read_fits at.1 old) g
 
-arrived_in_cell : (bytes : List ℕ) (said : Option Place) (end : WorldEnd) → (item_arrives bytes said end).cell ≡ end.cell
+pub arrived_in_cell : (bytes : List ℕ) (said : Option Place) (end : WorldEnd) → (item_arrives bytes said end).cell ≡ end.cell
 arrived_in_cell bytes said end = by_gone (is_ended end.stage || end.is_cut) where
   by_gone : (b : Bool) → (cond b end (record end { unread = end.unread ++ bytes; places = end.places ++ said ∷ [] })).cell ≡ end.cell
   by_gone true = refl
   by_gone false = refl
 
-poked_in_cell : (bytes : List ℕ) (end : WorldEnd) → (arrives bytes end).cell ≡ end.cell
+pub poked_in_cell : (bytes : List ℕ) (end : WorldEnd) → (arrives bytes end).cell ≡ end.cell
 poked_in_cell bytes end = by_gone (is_ended end.stage || end.is_cut) where
   by_gone : (b : Bool) → (cond b end (record end { unread = end.unread ++ bytes })).cell ≡ end.cell
   by_gone true = refl
@@ -395,7 +395,7 @@ step_kept journal log world place cell (steps.Post end event) g = still journal 
 
 -- ---- all of it
 
-some_within : {X : Type 0} (xs : List X) (i : ℕ) → i < length xs → is_some (slice_get xs i) ≡ true
+pub some_within : {X : Type 0} (xs : List X) (i : ℕ) → i < length xs → is_some (slice_get xs i) ≡ true
 some_within [] i h = absurd (never i h) where
   never : (n : ℕ) → n < 0 → ⊥
   never n h = omega arith

@@ -403,7 +403,7 @@ event_led I k log number lines.Settle world i = settled_last I k log number worl
     (settling I k (weight_of world) (log ++ entries.Line number verdicts.Ok ∷ []) from_start world (k.mark log world number verdicts.Ok i))
 event_led I k log number what world i = marked I log number (line_done what world) (λ answer. done_led I k (log ++ entries.Line number answer ∷ []) what world (k.mark log world number answer i))
 
-step_led : (I : List Entry → World → Type 0) → Keeps I → (log : List Entry) (world : World) (number : ℕ) (what : What) → I log world → LedOn I log (world_step world (record { number = number; what = what }))
+pub step_led : (I : List Entry → World → Type 0) → Keeps I → (log : List Entry) (world : World) (number : ℕ) (what : What) → I log world → LedOn I log (world_step world (record { number = number; what = what }))
 step_led I k log world number (lines.Node name address unique) i = at_rest I log world i
 step_led I k log world number (lines.Away name address unique) i = at_rest I log world i
 step_led I k log world number (lines.Label node label) i = at_rest I log world i

@@ -4,3 +4,6 @@ pub mod Stored
 pub mod Kept
 pub mod Agreeing
 pub mod Told
+pub mod Blocks
+pub mod OwnEntries
+pub mod Feeding

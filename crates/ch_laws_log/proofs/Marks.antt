@@ -51,7 +51,7 @@ abbrev pub HappenedUnmarked : Happened → Type 0
 HappenedUnmarked (Ok done) = Unmarked done.0
 HappenedUnmarked (Err stop) = Unit {0}
 
-both : (xs ys : List Entry) → Unmarked xs → Unmarked ys → Unmarked (xs ++ ys)
+pub both : (xs ys : List Entry) → Unmarked xs → Unmarked ys → Unmarked (xs ++ ys)
 both xs ys a b = filter_map-append mark_number xs ys ∙ ap (λ l. l ++ filter_map mark_number ys) a ∙ b
 
 -- ---- what followed at a cell
@@ -228,7 +228,7 @@ see_unmarked pass world = by_visit (next_visit pass world) where
   by_visit None = by_test (some_timer_runs world)
   by_visit (Some visit) = happened_unmarked _ (visits_unmarked visit.which visit.socket world)
 
-abbrev SettledUnmarked : Option Happened → Type 0
+abbrev pub SettledUnmarked : Option Happened → Type 0
 SettledUnmarked None = Unit {0}
 SettledUnmarked (Some done) = HappenedUnmarked done
 
@@ -236,7 +236,7 @@ rest_unmarked : (told : List Entry) (more : Option Happened) → Unmarked told �
 rest_unmarked told None a b = tt
 rest_unmarked told (Some more) a b = after_unmarked told more a b
 
-settled_unmarked : (fuel : ℕ) (pass : Pass) (world : World) → SettledUnmarked (settled_in fuel pass world)
+pub settled_unmarked : (fuel : ℕ) (pass : Pass) (world : World) → SettledUnmarked (settled_in fuel pass world)
 settled_unmarked zero pass world = by_seen (see pass world) where
   by_seen : (o : Option (Happened × Pass)) → SettledUnmarked (elim o as (λ o. Option Happened) [
     | None ↦ Some (Ok ([], world))
@@ -305,7 +305,7 @@ other_unmarked (lines.Poke sock bytes) world = socket_unmarked sock is_strangers
 other_unmarked (lines.Quit sock) world = socket_unmarked sock is_strangers quits world (λ s w. refl)
 other_unmarked what world = refl
 
-done_unmarked : (what : What) (world : World) → AnsweredUnmarked (line_done what world)
+pub done_unmarked : (what : What) (world : World) → AnsweredUnmarked (line_done what world)
 done_unmarked what world = by_command (command_as world.names what) where
   by_command : (o : Option (ProcName × Command)) → AnsweredUnmarked (elim o as (λ o. Answered) [
     | None ↦ other_line what world

@@ -4,24 +4,39 @@
 //! host, stand beside.
 #![tactic(auto)]
 
-ghost use Rattle.std.specs.Prelude.{◌≡◌, List, false, find, is_some, Some, Ok, IsTrue};
+ghost use Rattle.std.specs.Prelude.{◌≡◌, ℕ, List, false, find, is_some, Some, Ok, IsTrue};
 ghost use Rattle.std.specs.List.{list_any};
 ghost use Rattle.ch_model.specs.declared.entry.Entry.{Entry};
 ghost use Rattle.ch_model.specs.declared.line.Line.{Line};
 ghost use Rattle.ch_model.specs.declared.name.End.TheVariants.{O, T};
 ghost use Rattle.ch_model.specs.declared.name.SockName.{SockName};
+ghost use Rattle.ch_model.specs.AccountsBytes.{feeds_the_unread};
 ghost use Rattle.ch_model.specs.AnswersEntries.{refuses};
-ghost use Rattle.ch_model.specs.HasAnswers.{marks_all};
+ghost use Rattle.ch_model.specs.HasAnswers.{marks_all, is_of_done, has_own_first};
+ghost use Rattle.ch_model.specs.Logs.{each, each_between};
 ghost use Rattle.ch_model.specs.Sockets.{is_opening};
 ghost use Rattle.ch_model.specs.World.{world_new, log_from, log_of};
 ghost use Rattle.ch_model.specs.WorldSockets.{is_socket_named};
 ghost use Rattle.ch_model.specs.WorldState.{WorldSocket, World};
-ghost use Rattle.ch_laws_log.specs.Agrees.{IsPlaced, IsAsTold};
+ghost use Rattle.ch_laws_log.specs.Agrees.{IsPlaced, AllPlaced, IsAsTold, is_refusal};
+ghost use Rattle.ch_laws_log.specs.Lines.{AllLines, AreNumbered, is_of_no_end, is_of_network};
 
 /// The log of a journal marks each of its event lines once, in order, and no other line: whatever lines it has, in a
 /// settle too. Declarations have no mark.
 pub fn marked_once()
     ensures { (journal : List Line) (log : List Entry) → log_of journal ≡ Ok log → IsTrue (marks_all journal log) }
+{}
+
+/// Where an event line isn't done, nothing follows its mark: each other entry stands after a line that was done. So it
+/// is for journals whose lines have rising numbers and don't join, refuse, feed or lose.
+pub fn done_lines_alone()
+    ensures { (least : ℕ) (journal : List Line) (log : List Entry) → AreNumbered least journal → AllLines is_of_no_end journal → log_of journal ≡ Ok log → IsTrue (each (is_of_done journal) log) }
+{}
+
+/// A line that is done has its own entry first, for journals of rising numbers whose lines happen to sockets and
+/// timers: those that join, come, refuse, cut, lose, poke and quit, timers that are due, and settling, which has none.
+pub fn own_entry_first()
+    ensures { (least : ℕ) (journal : List Line) (log : List Entry) → AreNumbered least journal → AllLines is_of_network journal → log_of journal ≡ Ok log → IsTrue (each_between (has_own_first journal) log) }
 {}
 
 /// After some lines, of whatever kind and settling included, the world has the sockets that the log opened, under
@@ -34,4 +49,11 @@ pub fn sockets_as_told()
     ensures sockets { (journal lines : List Line) (log : List Entry) (world : World) (s : SockName) → log_from (world_new journal) lines ≡ Ok (log, world) → list_any (is_opening s) log ≡ is_some (find (is_socket_named s) world.sockets) }
     ensures openers { (journal lines : List Line) (log : List Entry) (world : World) (s : SockName) (socket : WorldSocket) → log_from (world_new journal) lines ≡ Ok (log, world) → find (is_socket_named s) world.sockets ≡ Some socket → list_any (refuses s) log ≡ false → IsAsTold journal log s O socket.o }
     ensures targets { (journal lines : List Line) (log : List Entry) (world : World) (s : SockName) (socket : WorldSocket) → log_from (world_new journal) lines ≡ Ok (log, world) → find (is_socket_named s) world.sockets ≡ Some socket → IsPlaced journal socket → IsAsTold journal log s T socket.t }
+{}
+
+/// No more bytes are fed to an end than were unread there by the log, and what is fed is their front, since bytes are
+/// unread in the order in which they were written. So it is after any lines, where each target's end is of a cell
+/// exactly if its name leads to a host, and no dial was refused.
+pub fn fed_was_unread()
+    ensures { (journal lines : List Line) (log : List Entry) (world : World) → log_from (world_new journal) lines ≡ Ok (log, world) → AllPlaced journal world → list_any is_refusal log ≡ false → IsTrue (each (feeds_the_unread journal) log) }
 {}
