@@ -410,8 +410,13 @@ nowhere journal log world socket place is at none g =
     let gone : is_some (slice_get world.cells place) ≡ false = ap is_some none in
     absurd cc
 
-pub keeps_good : (journal : List Line) → Keeps (Good journal)
+-- refusals and feedings of any kind keep it
+abbrev pub AnyCount : ℕ → List ℕ → Type 0
+AnyCount count left = Unit {0}
+
+pub keeps_good : (journal : List Line) → Keeps (Unit {0}) AnyCount (Good journal)
 keeps_good journal = record {
+  whole = λ left. tt;
   distinct = λ log world g. g.apart;
   cell = cell_kept journal;
   mark = λ log world number answer g. quiet journal log world (entries.Line number answer) (λ s. refl) g;
@@ -419,10 +424,10 @@ keeps_good journal = record {
   note = note_kept journal;
   step = step_kept journal;
   joined = λ log world socket is p g. end_changed journal log world (entries.Joined socket.name) socket.name O opened socket is (λ end. refl) (λ s. refl) (joined_fits socket.name socket p) g;
-  refused = λ log world socket is p g. noticed journal log world (entries.Refused socket.name) socket.name socket is (λ s. refl) (refused_fits socket.name socket) g;
+  refused = λ r log world socket is p g. noticed journal log world (entries.Refused socket.name) socket.name socket is (λ s. refl) (refused_fits socket.name socket) g;
   came = λ log world socket number is p g. end_changed journal log world (entries.Came socket.name) socket.name T (λ end. record (opened end) { number = Some number }) socket is (λ end. refl) (λ s. refl) (came_fits socket.name socket number p) g;
   came_nowhere = λ log world socket place is at none g. absurd (nowhere journal log world socket place is at none g);
-  fed = λ log world socket which count is stands g. end_changed journal log world (entries.Fed socket.name which (length (take count (end_of which socket).unread))) socket.name which (λ end. record end { unread = drop count end.unread }) socket is (λ end. refl) (λ s. refl) (fed_fits socket.name which count socket) g;
+  fed = λ log world socket which count is stands input w g. end_changed journal log world (entries.Fed socket.name which (length (take count (end_of which socket).unread))) socket.name which (λ end. record end { unread = drop count end.unread }) socket is (λ end. refl) (λ s. refl) (fed_fits socket.name which count socket) g;
   lost = λ log world socket which g. quiet journal log world (entries.Lost socket.name which) (λ s. refl) g;
   timed = λ log world node peer g. quiet journal log world (entries.Timed node peer) (λ s. refl) g;
   was_cut = λ log world socket which is g. end_changed journal log world (entries.Cut socket.name which) socket.name which cut socket is (λ end. refl) (λ s. refl) (cut_fits socket.name which socket) g;

@@ -25,7 +25,7 @@ use Rattle.ch_laws_log.specs.Lines.{AllLines, AreNumbered}
 use Rattle.ch_laws_log.proofs.Agreeing.{Good, keeps_good}
 use Rattle.ch_laws_log.proofs.Kept.{LedOn, step_led}
 use Rattle.ch_laws_log.proofs.Marks.{Unmarked, AnsweredUnmarked, SettledUnmarked, both, done_unmarked, settled_unmarked}
-use Rattle.ch_laws_log.proofs.Told.{fresh}
+use Rattle.ch_laws_log.proofs.Told.{fresh, any_line}
 
 -- ---- what is no mark
 
@@ -152,7 +152,7 @@ Found journal (line ∷ rest) = (line_numbered journal line.number ≡ Some line
 all_pass : (journal : List Line) (test : What → Bool) → TellsAlone journal test → (rest : List Line) (log : List Entry) (world : World) → Found journal rest → AllLines test rest → Good journal log world → Passes journal log (log_from world rest)
 all_pass journal test alone [] log world found of g = refl
 all_pass journal test alone (line ∷ rest) log world found of g =
-    by_step (world_step world line) (step_passes journal test alone log line.number line.what world of.0 found.0 g) (step_led (Good journal) (keeps_good journal) log world line.number line.what g) (λ l w h. all_pass journal test alone rest l w found.1 of.1 h) where
+    by_step (world_step world line) (step_passes journal test alone log line.number line.what world of.0 found.0 g) (step_led (Good journal) (keeps_good journal) log world line.number line.what (any_line line.what) g) (λ l w h. all_pass journal test alone rest l w found.1 of.1 h) where
       by_rest : (told : List Entry) (more : Happened) → each_after (is_of_done journal) log told ≡ true → Passes journal (log ++ told) more → Passes journal log (more >>= λ more. Ok (told ++ more.0, more.1))
       by_rest told (Ok more) p q = each_append (is_of_done journal) log told more.0 p q
       by_rest told (Err stop) p q = tt
@@ -261,7 +261,7 @@ step_between journal test own log number what world of found g = event_between j
 all_between : (journal : List Line) (test : What → Bool) → BeginsOwn journal test → (rest : List Line) (log : List Entry) (world : World) → Found journal rest → AllLines test rest → Good journal log world → PassesBetween journal log (log_from world rest)
 all_between journal test own [] log world found of g = nothing_between journal log
 all_between journal test own (line ∷ rest) log world found of g =
-    by_step (world_step world line) (step_between journal test own log line.number line.what world of.0 found.0 g) (step_led (Good journal) (keeps_good journal) log world line.number line.what g) (λ l w h. all_between journal test own rest l w found.1 of.1 h) where
+    by_step (world_step world line) (step_between journal test own log line.number line.what world of.0 found.0 g) (step_led (Good journal) (keeps_good journal) log world line.number line.what (any_line line.what) g) (λ l w h. all_between journal test own rest l w found.1 of.1 h) where
       by_rest : (told : List Entry) (w : World) (more : Happened) → PassesBetween journal log (Ok (told, w)) → PassesBetween journal (log ++ told) more → PassesBetween journal log (more >>= λ more. Ok (told ++ more.0, more.1))
       by_rest told w (Ok more) p q = λ after h. subst (λ (l : List Entry). each_between_after (has_own_first journal) log l ≡ true) (sym (append_assoc told more.0 after))
           (p (more.0 ++ after) (q after (subst (λ (l : List Entry). each_between_after (has_own_first journal) l after ≡ true) (sym (append_assoc log told more.0)) h)))

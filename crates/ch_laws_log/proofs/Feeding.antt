@@ -1,132 +1,33 @@
--- What is fed to an end was unread.
-use Rattle.std.proofs.Common.{◌≡◌, ◌≤◌, ℕ, zero, suc, Bool, true, false, cond, ◌||◌, ◌&&◌, List, [], ◌∷◌, ◌++◌, length, take, drop, Ok, refl, sym, ap, ◌∙◌, subst, arith, le-leb}
-use Rattle.std.proofs.lemmas.Bool.{or_parts}
+-- What is fed to an end was unread, and the end of input is fed where nothing is; and no dial is refused where no line refuses.
+use Rattle.std.proofs.Common.{◌≡◌, ◌≤◌, ℕ, zero, suc, Bool, true, false, cond, not, ◌||◌, ◌&&◌, List, [], ◌∷◌, ◌++◌, length, take, Ok, refl, sym, ap, ◌∙◌, subst, arith, le-leb}
+use Rattle.std.proofs.lemmas.Bool.{and_parts, or_parts}
 use Rattle.std.proofs.lemmas.List.Folds.{list_any-append}
 use Rattle.std.specs.List.{list_any}
-use Rattle.std.specs.Prelude.{find, is_some, nat_le, Option, Some, None}
+use Rattle.std.specs.Prelude.{find, nat_le, nat_lt, ◌==◌, Option, Some, None}
 use Rattle.ch_model.specs.declared.entry.Entry.{Entry}
 use Rattle.ch_model.specs.declared.entry.Entry.TheVariants as entries
 use Rattle.ch_model.specs.declared.line.Line.{Line}
+use Rattle.ch_model.specs.declared.line.What.{What}
+use Rattle.ch_model.specs.declared.line.What.TheVariants as lines
 use Rattle.ch_model.specs.declared.name.End.{End}
 use Rattle.ch_model.specs.declared.name.End.TheVariants.{O, T}
 use Rattle.ch_model.specs.declared.name.SockName.{SockName}
-use Rattle.ch_model.specs.declared.note.Note.{Note}
-use Rattle.ch_model.specs.declared.note.Note.TheVariants as notes
-use Rattle.ch_model.specs.declared.step.Place.{Place}
-use Rattle.ch_model.specs.declared.step.Step.{Step}
-use Rattle.ch_model.specs.declared.step.Step.TheVariants as steps
-use Rattle.ch_model.specs.AccountsBytes.{feeds_the_unread}
+use Rattle.ch_model.specs.AccountsBytes.{feeds_the_unread, feeds_the_end}
 use Rattle.ch_model.specs.AnswersEntries.{refuses}
-use Rattle.ch_model.specs.Declarations.{has_host}
-use Rattle.ch_model.specs.HostSteps.{own_address}
 use Rattle.ch_model.specs.Logs.{each_after}
-use Rattle.ch_model.specs.Naming.{Names, called}
-use Rattle.ch_model.specs.Same.{same_socket}
-use Rattle.ch_model.specs.Sockets.{unread}
-use Rattle.ch_model.specs.Stages.{Pending}
+use Rattle.ch_model.specs.Same.{across}
+use Rattle.ch_model.specs.Sockets.{unread, stands_at, is_cut, has_ended_input}
+use Rattle.ch_model.specs.Stages.{is_ended}
 use Rattle.ch_model.specs.World.{world_new, log_from}
-use Rattle.ch_model.specs.WorldSockets.{end_of, other, ended, cut, opened, arrives, item_arrives, end_of_nobody, is_socket_named, with_end, with_socket, with_end_of, find_end, new_socket}
-use Rattle.ch_model.specs.WorldState.{Cell, WorldEnd, WorldSocket, World}
-use Rattle.ch_model.specs.WorldSteps.{note_entry, on_end, later_places, item_is_read, reads_item, end_closes, stepped}
-use Rattle.ch_laws_log.specs.Agrees.{IsPlaced, AllPlaced, IsAsTold, is_refusal}
-use Rattle.ch_laws_log.proofs.Agreeing.{KeepsCell, with_end_is, name_of_end, cell_of_end, arrived_in_cell, poked_in_cell, Good, keeps_good}
-use Rattle.ch_laws_log.proofs.Blocks.{each_append}
-use Rattle.ch_laws_log.proofs.Kept.{IsIn, stranger_socket, Keeps}
-use Rattle.ch_laws_log.proofs.Stored.{same_is, self_same, find_name, find_stored, IsHeld, found_end, next_is_new}
-use Rattle.ch_laws_log.proofs.Told.{fresh, holds_after, opener_as_told, target_as_told}
-
--- the log agrees with the world, and where its sockets are placed and no dial was refused, each feeding was of what was unread
-pub record FedWell (journal : List Line) (log : List Entry) (world : World) : Type 0 where
-  pub good : Good journal log world
-  pub well : AllPlaced journal world → list_any is_refusal log ≡ false → each_after (feeds_the_unread journal) [] log ≡ true
-
--- ---- sockets that are placed later were before
-
-abbrev Back : List Line → World → World → Type 0
-Back journal before after = AllPlaced journal after → AllPlaced journal before
-
-back_stored : (journal : List Line) (world : World) (n : SockName) (old new : WorldSocket) → find (is_socket_named n) world.sockets ≡ Some old → new.name ≡ n → new.t.cell ≡ old.t.cell → Back journal world (with_socket new world)
-back_stored journal world n old new is name cell all s socket found = by_name (same_socket new.name s) refl where
-  by_name : (b : Bool) → same_socket new.name s ≡ b → IsPlaced journal socket
-  by_name true h =
-      let at_s : new.name ≡ s = same_is new.name s h in
-      let old_is : find (is_socket_named s) world.sockets ≡ Some old = subst (λ (m : SockName). find (is_socket_named m) world.sockets ≡ Some old) (sym name ∙ at_s) is in
-      let same : old ≡ socket = cc in
-      subst (λ (w : WorldSocket). IsPlaced journal w) same (of_old (find_name n world.sockets old is) (all n new (find_stored new world.sockets n ∙ ap (λ b. cond b (Some new) (find (is_socket_named n) world.sockets)) (subst (λ (m : SockName). same_socket new.name m ≡ true) name (self_same new.name)))))
-    where
-      of_old : old.name ≡ n → IsPlaced journal new → IsPlaced journal old
-      of_old o p = ap (λ (c : Option ℕ). is_some c) (sym cell) ∙ p ∙ ap (λ (m : SockName). has_host journal m.to) (name ∙ sym o)
-  by_name false h = all s socket (find_stored new world.sockets s ∙ ap (λ b. cond b (Some new) (find (is_socket_named s) world.sockets)) h ∙ found)
-
-back_end : (journal : List Line) (world : World) (n : SockName) (e : End) (f : WorldEnd → WorldEnd) (old : WorldSocket) → find (is_socket_named n) world.sockets ≡ Some old → KeepsCell f → Back journal world (with_end_of n e f world)
-back_end journal world n e f old is k = subst (λ (w : World). Back journal world w) (sym (with_end_is n e f world old is))
-    (back_stored journal world n old (with_end e (f (end_of e old)) old) is (name_of_end e (f (end_of e old)) old ∙ find_name n world.sockets old is) (cell_of_end e f old k))
-
-back_new : (journal : List Line) (world : World) (new : WorldSocket) → find (is_socket_named new.name) world.sockets ≡ None → Back journal world (with_socket new world)
-back_new journal world new none all s socket found = by_name (same_socket new.name s) refl where
-  by_name : (b : Bool) → same_socket new.name s ≡ b → IsPlaced journal socket
-  by_name true h = let gone : find (is_socket_named s) world.sockets ≡ None = subst (λ (m : SockName). find (is_socket_named m) world.sockets ≡ None) (same_is new.name s h) none in absurd cc
-  by_name false h = all s socket (find_stored new world.sockets s ∙ ap (λ b. cond b (Some new) (find (is_socket_named s) world.sockets)) h ∙ found)
-
--- ---- one more thing
-
-none_before : (log told : List Entry) → list_any is_refusal (log ++ told) ≡ false → list_any is_refusal log ≡ false
-none_before log told e = (or_parts (list_any is_refusal log) (list_any is_refusal told) (sym (list_any-append is_refusal log told) ∙ e)).0
-
-more_fed : (journal : List Line) (log told : List Entry) (world after : World) → Good journal (log ++ told) after → Back journal world after → (AllPlaced journal world → list_any is_refusal log ≡ false → each_after (feeds_the_unread journal) log told ≡ true) → FedWell journal log world → FedWell journal (log ++ told) after
-more_fed journal log told world after g back passes f = record {
-  good = g;
-  well = λ placed none. each_append (feeds_the_unread journal) [] log told (f.well (back placed) (none_before log told none)) (passes (back placed) (none_before log told none));
-}
-
--- a note is no feeding
-note_passes : (journal : List Line) (log : List Entry) (known : Names) (last : Option Place) (note : Note) → each_after (feeds_the_unread journal) log (note_entry known last note ∷ []) ≡ true
-note_passes journal log known last (notes.Made process origin) = refl
-note_passes journal log known last note = refl
-
-at_end_back : (journal : List Line) (place sock : ℕ) (f : SockName × End → World → List Entry × World) (world : World) → ((at : SockName × End) (old : WorldSocket) → find (is_socket_named at.0) world.sockets ≡ Some old → Back journal world (f at world).1) → Back journal world (on_end place sock f world).1
-at_end_back journal place sock f world each = by_end (find_end place sock world.sockets) refl where
-  told : Option (SockName × End) → List Entry × World
-  told o = elim o as (λ o. List Entry × World) [
-    | None ↦ ([], world)
-    | Some at ↦ f at world
-  ]
-
-  by_end : (o : Option (SockName × End)) → find_end place sock world.sockets ≡ o → Back journal world (told o).1
-  by_end None e = λ all. all
-  by_end (Some at) e = let held = found_end place sock world.sockets at e in each at held.socket held.is
-
-at_end_passes : (journal : List Line) (log : List Entry) (place sock : ℕ) (f : SockName × End → World → List Entry × World) (world : World) → ((at : SockName × End) → each_after (feeds_the_unread journal) log (f at world).0 ≡ true) → each_after (feeds_the_unread journal) log (on_end place sock f world).0 ≡ true
-at_end_passes journal log place sock f world each = by_end (find_end place sock world.sockets) where
-  by_end : (o : Option (SockName × End)) → each_after (feeds_the_unread journal) log (elim o as (λ o. List Entry × World) [
-    | None ↦ ([], world)
-    | Some at ↦ f at world
-  ]).0 ≡ true
-  by_end None = refl
-  by_end (Some at) = each at
-
-read_back : (journal : List Line) (at : SockName × End) (world : World) (old : WorldSocket) → find (is_socket_named at.0) world.sockets ≡ Some old → Back journal world (reads_item at world).1
-read_back journal at world old is = subst (λ (o : Option WorldSocket). Back journal world (item_is_read at o world)) (sym is) (back_end journal world at.0 at.1 (λ end. record end { places = later_places end.places }) old is (λ end. refl))
-
-step_back : (journal : List Line) (log : List Entry) (world : World) (place : ℕ) (cell : Cell) (step : Step) → Good journal log world → Back journal world (stepped place cell step world).1
-step_back journal log world place cell (steps.Dial sock end peer) g = back_new journal world (new_socket world (called world.names (own_address cell.host end)) (called world.names peer) cell.host.host (end_of_nobody (Some place) (Some sock) Pending) peer) (next_is_new world (called world.names (own_address cell.host end)) (called world.names peer) g.numbered)
-step_back journal log world place cell (steps.Read sock) g = at_end_back journal place sock reads_item world (λ at old is. read_back journal at world old is)
-step_back journal log world place cell (steps.Write sock bytes said) g = at_end_back journal place sock (λ at now. (entries.Wrote at.0 at.1 bytes ∷ [], with_end_of at.0 (other at.1) (item_arrives bytes said) now)) world (λ at old is. back_end journal world at.0 (other at.1) (item_arrives bytes said) old is (arrived_in_cell bytes said))
-step_back journal log world place cell (steps.Up sock) g = at_end_back journal place sock (λ at now. (entries.Up at.0 at.1 ∷ [], now)) world (λ at old is all. all)
-step_back journal log world place cell (steps.Down sock) g = at_end_back journal place sock (λ at now. (entries.Down at.0 at.1 ∷ [], end_closes at now)) world (λ at old is. back_end journal world at.0 at.1 ended old is (λ end. refl))
-step_back journal log world place cell (steps.Left sock) g = at_end_back journal place sock (λ at now. (entries.Left at.0 at.1 ∷ [], end_closes at now)) world (λ at old is. back_end journal world at.0 at.1 ended old is (λ end. refl))
-step_back journal log world place cell (steps.Broke end peer why) g = λ all. all
-step_back journal log world place cell (steps.Post end event) g = λ all. all
-
-step_passes : (journal : List Line) (log : List Entry) (world : World) (place : ℕ) (cell : Cell) (step : Step) → each_after (feeds_the_unread journal) log (stepped place cell step world).0 ≡ true
-step_passes journal log world place cell (steps.Dial sock end peer) = refl
-step_passes journal log world place cell (steps.Read sock) = at_end_passes journal log place sock reads_item world (λ at. refl)
-step_passes journal log world place cell (steps.Write sock bytes said) = at_end_passes journal log place sock (λ at now. (entries.Wrote at.0 at.1 bytes ∷ [], with_end_of at.0 (other at.1) (item_arrives bytes said) now)) world (λ at. refl)
-step_passes journal log world place cell (steps.Up sock) = at_end_passes journal log place sock (λ at now. (entries.Up at.0 at.1 ∷ [], now)) world (λ at. refl)
-step_passes journal log world place cell (steps.Down sock) = at_end_passes journal log place sock (λ at now. (entries.Down at.0 at.1 ∷ [], end_closes at now)) world (λ at. refl)
-step_passes journal log world place cell (steps.Left sock) = at_end_passes journal log place sock (λ at now. (entries.Left at.0 at.1 ∷ [], end_closes at now)) world (λ at. refl)
-step_passes journal log world place cell (steps.Broke end peer why) = refl
-step_passes journal log world place cell (steps.Post end event) = refl
+use Rattle.ch_model.specs.WorldSockets.{end_of, other}
+use Rattle.ch_model.specs.WorldState.{WorldEnd, WorldSocket, World}
+use Rattle.ch_laws_log.specs.Agrees.{AllPlaced, IsAsTold, is_refusal}
+use Rattle.ch_laws_log.specs.Lines.{AllLines, feeds_some, is_without_refusal}
+use Rattle.ch_laws_log.proofs.Agreeing.{Good, AnyCount}
+use Rattle.ch_laws_log.proofs.Kept.{IsIn, Allowed, AllAllowed}
+use Rattle.ch_laws_log.proofs.Stored.{number_is}
+use Rattle.ch_laws_log.proofs.Tested.{Tested, PassesPlain, PassesFed, HeldBefore, keeps_tested}
+use Rattle.ch_laws_log.proofs.Told.{fresh, any_allowed, holds_after, opener_as_told, target_as_told}
 
 -- ---- a feeding
 
@@ -151,35 +52,129 @@ unread_is : (journal : List Line) (log : List Entry) (world : World) (socket : W
 unread_is journal log world socket O g is placed none = (opener_as_told journal log world socket.name socket g is (none_of_it socket.name log none)).unread
 unread_is journal log world socket T g is placed none = (target_as_told journal log world socket.name socket g is (placed socket.name socket is)).unread
 
-fed_passes : (journal : List Line) (log : List Entry) (world : World) (socket : WorldSocket) (which : End) (count : ℕ) → Good journal log world → IsIn socket world → AllPlaced journal world → list_any is_refusal log ≡ false → each_after (feeds_the_unread journal) log (entries.Fed socket.name which (length (take count (end_of which socket).unread)) ∷ []) ≡ true
-fed_passes journal log world socket which count g is placed none = ap (λ b. b && true)
-    (ap (λ (l : List ℕ). nat_le (length (take count (end_of which socket).unread)) (length l)) (unread_is journal log world socket which g is placed none) ∙ le-leb (length (take count (end_of which socket).unread)) (length (end_of which socket).unread) (taken_within count (end_of which socket).unread))
+-- the sockets are placed, and no dial was refused
+abbrev Sure : List Line → List Entry → World → Type 0
+Sure journal log world = AllPlaced journal world × (list_any is_refusal log ≡ false)
 
--- ---- all of it
+none_before : (log told : List Entry) → list_any is_refusal (log ++ told) ≡ false → list_any is_refusal log ≡ false
+none_before log told e = (or_parts (list_any is_refusal log) (list_any is_refusal told) (sym (list_any-append is_refusal log told) ∙ e)).0
 
-pub keeps_fed : (journal : List Line) → Keeps (FedWell journal)
-keeps_fed journal = record {
-  distinct = λ log world f. f.good.apart;
-  cell = λ log world place cell f. record { good = k.cell log world place cell f.good; well = f.well };
-  mark = λ log world number answer f. more_fed journal log (entries.Line number answer ∷ []) world world (k.mark log world number answer f.good) (λ all. all) (λ p n. refl) f;
-  settled = λ log world f. more_fed journal log (entries.Settled ∷ []) world world (k.settled log world f.good) (λ all. all) (λ p n. refl) f;
-  note = λ log world note f. more_fed journal log (note_entry world.names world.last note ∷ []) world _ (k.note log world note f.good) (λ all. all) (λ p n. note_passes journal log world.names world.last note) f;
-  step = λ log world place cell step f. more_fed journal log (stepped place cell step world).0 world (stepped place cell step world).1 (k.step log world place cell step f.good) (step_back journal log world place cell step f.good) (λ p n. step_passes journal log world place cell step) f;
-  joined = λ log world socket is p f. more_fed journal log (entries.Joined socket.name ∷ []) world (with_end_of socket.name O opened world) (k.joined log world socket is p f.good) (back_end journal world socket.name O opened socket is (λ end. refl)) (λ q n. refl) f;
-  refused = λ log world socket is p f. more_fed journal log (entries.Refused socket.name ∷ []) world world (k.refused log world socket is p f.good) (λ all. all) (λ q n. refl) f;
-  came = λ log world socket number is p f. more_fed journal log (entries.Came socket.name ∷ []) world (with_end_of socket.name T (λ end. record (opened end) { number = Some number }) world) (k.came log world socket number is p f.good) (back_end journal world socket.name T (λ end. record (opened end) { number = Some number }) socket is (λ end. refl)) (λ q n. refl) f;
-  came_nowhere = λ log world socket place is at none f. more_fed journal log (entries.Came socket.name ∷ []) world world (k.came_nowhere log world socket place is at none f.good) (λ all. all) (λ q n. refl) f;
-  fed = λ log world socket which count is stands f. more_fed journal log (entries.Fed socket.name which (length (take count (end_of which socket).unread)) ∷ []) world (with_end_of socket.name which (λ end. record end { unread = drop count end.unread }) world)
-      (k.fed log world socket which count is stands f.good) (back_end journal world socket.name which (λ end. record end { unread = drop count end.unread }) socket is (λ end. refl)) (fed_passes journal log world socket which count f.good is) f;
-  lost = λ log world socket which f. more_fed journal log (entries.Lost socket.name which ∷ []) world world (k.lost log world socket which f.good) (λ all. all) (λ q n. refl) f;
-  timed = λ log world node peer f. more_fed journal log (entries.Timed node peer ∷ []) world world (k.timed log world node peer f.good) (λ all. all) (λ q n. refl) f;
-  was_cut = λ log world socket which is f. more_fed journal log (entries.Cut socket.name which ∷ []) world (with_end_of socket.name which cut world) (k.was_cut log world socket which is f.good) (back_end journal world socket.name which cut socket is (λ end. refl)) (λ q n. refl) f;
-  knocked = λ log world stranger node f. more_fed journal log (entries.Knocked (stranger_socket stranger node world).name ∷ []) world (with_socket (stranger_socket stranger node world) world) (k.knocked log world stranger node f.good) (back_new journal world (stranger_socket stranger node world) (next_is_new world stranger node f.good.numbered)) (λ q n. refl) f;
-  poked = λ log world socket bytes is f. more_fed journal log (entries.Poked socket.name bytes ∷ []) world (with_end_of socket.name T (arrives bytes) world) (k.poked log world socket bytes is f.good) (back_end journal world socket.name T (arrives bytes) socket is (poked_in_cell bytes)) (λ q n. refl) f;
-  quitted = λ log world socket is f. more_fed journal log (entries.Quitted socket.name ∷ []) world (with_end_of socket.name O ended world) (k.quitted log world socket is f.good) (back_end journal world socket.name O ended socket is (λ end. refl)) (λ q n. refl) f;
-} where
-  k : Keeps (Good journal)
-  k = keeps_good journal
+sure_before : (journal : List Line) → HeldBefore journal (Sure journal)
+sure_before journal log told world after back sure = (back sure.0, none_before log told sure.1)
+
+-- ---- no more than is unread
+
+unread_plain : (journal : List Line) → PassesPlain (feeds_the_unread journal)
+unread_plain journal log (entries.Fed sock end count) e = absurd cc
+unread_plain journal log x e = refl
+
+unread_fed : (journal : List Line) → PassesFed journal (Sure journal) (feeds_the_unread journal) AnyCount
+unread_fed journal log world socket which count g is input w sure = ap (λ (l : List ℕ). nat_le (length (take count (end_of which socket).unread)) (length l)) (unread_is journal log world socket which g is sure.0 sure.1)
+    ∙ le-leb (length (take count (end_of which socket).unread)) (length (end_of which socket).unread) (taken_within count (end_of which socket).unread)
 
 pub fed_unread : (journal lines : List Line) (log : List Entry) (world : World) → log_from (world_new journal) lines ≡ Ok (log, world) → AllPlaced journal world → list_any is_refusal log ≡ false → each_after (feeds_the_unread journal) [] log ≡ true
-fed_unread journal lines log world is placed none = (holds_after (FedWell journal) (keeps_fed journal) journal lines (record { good = fresh journal; well = λ p n. refl }) log world is).well placed none
+fed_unread journal lines log world is placed none = (holds_after (Tested journal (Sure journal) (feeds_the_unread journal))
+    (keeps_tested journal (Sure journal) (feeds_the_unread journal) (Unit {0}) AnyCount (λ left. tt) (sure_before journal) (unread_plain journal) (unread_fed journal) (λ r l s. refl))
+    journal lines (any_allowed lines) (record { good = fresh journal; well = λ p. refl }) log world is).well (placed, none)
+
+-- ---- the end of input, where nothing is unread
+
+-- where nothing is fed, nothing is unread
+abbrev pub TakesAll : ℕ → List ℕ → Type 0
+TakesAll count left = length (take count left) ≡ 0 → left ≡ []
+
+takes_whole : (left : List ℕ) → TakesAll (length left) left
+takes_whole [] e = refl
+takes_whole (b ∷ left) e = absurd (never (length (take (length left) left)) e) where
+  never : (n : ℕ) → suc n ≡ 0 → ⊥
+  never n h = omega arith
+
+takes_some : (count : ℕ) (left : List ℕ) → TakesAll (suc count) left
+takes_some count [] e = refl
+takes_some count (b ∷ left) e = absurd (never (length (take count left)) e) where
+  never : (n : ℕ) → suc n ≡ 0 → ⊥
+  never n h = omega arith
+
+end_plain : (journal : List Line) → PassesPlain (feeds_the_end journal)
+end_plain journal log (entries.Fed sock end count) e = absurd cc
+end_plain journal log x e = refl
+
+-- the end of input, as the log tells
+ends_input : (journal : List Line) (log : List Entry) (s : SockName) (e far : End) (end other_end : WorldEnd) → across e ≡ far → IsAsTold journal log s e end → IsAsTold journal log s far other_end → (end.is_cut || is_ended other_end.stage) ≡ true → has_ended_input journal log s e ≡ true
+ends_input journal log s e far end other_end is here there input =
+    ap (λ b. b || is_cut log s e) (ap (λ (x : End). stands_at journal log s x is_ended) is ∙ there.stands is_ended) ∙ ap (λ b. is_ended other_end.stage || b) here.cut ∙ turned (is_ended other_end.stage) end.is_cut ∙ input where
+      turned : (a b : Bool) → (a || b) ≡ (b || a)
+      turned true true = refl
+      turned true false = refl
+      turned false true = refl
+      turned false false = refl
+
+has_ended : (journal : List Line) (log : List Entry) (world : World) (socket : WorldSocket) (which : End) → Good journal log world → IsIn socket world → Sure journal log world → ((end_of which socket).is_cut || is_ended (end_of (other which) socket).stage) ≡ true → has_ended_input journal log socket.name which ≡ true
+has_ended journal log world socket O g is sure input = ends_input journal log socket.name O T socket.o socket.t refl (opener_as_told journal log world socket.name socket g is (none_of_it socket.name log sure.1)) (target_as_told journal log world socket.name socket g is (sure.0 socket.name socket is)) input
+has_ended journal log world socket T g is sure input = ends_input journal log socket.name T O socket.t socket.o refl (target_as_told journal log world socket.name socket g is (sure.0 socket.name socket is)) (opener_as_told journal log world socket.name socket g is (none_of_it socket.name log sure.1)) input
+
+end_fed : (journal : List Line) → PassesFed journal (Sure journal) (feeds_the_end journal) TakesAll
+end_fed journal log world socket which count g is input w sure = by_count (length (take count (end_of which socket).unread) == 0) refl where
+  left_in : ◌≡◌ {A = List ℕ} (end_of which socket).unread [] → (nat_lt 0 (length (end_of which socket).unread) || ((end_of which socket).is_cut || is_ended (end_of (other which) socket).stage)) ≡ true → ((end_of which socket).is_cut || is_ended (end_of (other which) socket).stage) ≡ true
+  left_in e h = sym (ap (λ (l : List ℕ). nat_lt 0 (length l) || ((end_of which socket).is_cut || is_ended (end_of (other which) socket).stage)) e) ∙ h
+
+  by_count : (b : Bool) → (length (take count (end_of which socket).unread) == 0) ≡ b → (not b || length (unread journal log socket.name which) == 0 && has_ended_input journal log socket.name which) ≡ true
+  by_count false e = refl
+  by_count true e =
+      let none = w (number_is (length (take count (end_of which socket).unread)) 0 e) in
+      ap (λ (l : List ℕ). length l == 0 && has_ended_input journal log socket.name which) (unread_is journal log world socket which g is sure.0 sure.1 ∙ none) ∙ has_ended journal log world socket which g is sure (left_in none input)
+
+feeding_line : (what : What) → feeds_some what ≡ true → Allowed (Unit {0}) TakesAll what
+feeding_line (lines.Feed sock end zero) e = absurd cc
+feeding_line (lines.Feed sock end (suc count)) e = takes_some count
+feeding_line what e = tt
+
+feeding_lines : (journal : List Line) → AllLines feeds_some journal → AllAllowed (Unit {0}) TakesAll journal
+feeding_lines [] all = tt
+feeding_lines (line ∷ rest) all = (feeding_line line.what all.0, feeding_lines rest all.1)
+
+pub fed_end : (journal lines : List Line) (log : List Entry) (world : World) → AllLines feeds_some lines → log_from (world_new journal) lines ≡ Ok (log, world) → AllPlaced journal world → list_any is_refusal log ≡ false → each_after (feeds_the_end journal) [] log ≡ true
+fed_end journal lines log world some is placed none = (holds_after (Tested journal (Sure journal) (feeds_the_end journal))
+    (keeps_tested journal (Sure journal) (feeds_the_end journal) (Unit {0}) TakesAll takes_whole (sure_before journal) (end_plain journal) (end_fed journal) (λ r l s. refl))
+    journal lines (feeding_lines lines some) (record { good = fresh journal; well = λ p. refl }) log world is).well (placed, none)
+
+-- ---- no refusal, where no line refuses
+
+abbrev Always : List Entry → World → Type 0
+Always log world = Unit {0}
+
+refuses_not : List Entry → Entry → Bool
+refuses_not log x = not (is_refusal x)
+
+none_plain : PassesPlain refuses_not
+unfolding refuses_not
+none_plain log (entries.Refused sock) e = absurd cc
+none_plain log x e = refl
+
+none_fed : (journal : List Line) → PassesFed journal Always refuses_not AnyCount
+unfolding refuses_not
+none_fed journal log world socket which count g is input w p = refl
+
+refusing_line : (what : What) → is_without_refusal what ≡ true → Allowed ⊥ AnyCount what
+refusing_line (lines.Refuse sock) e = absurd cc
+refusing_line lines.Settle e = absurd cc
+refusing_line (lines.Feed sock end count) e = λ left. tt
+refusing_line what e = tt
+
+refusing_lines : (journal : List Line) → AllLines is_without_refusal journal → AllAllowed ⊥ AnyCount journal
+refusing_lines [] all = tt
+refusing_lines (line ∷ rest) all = (refusing_line line.what all.0, refusing_lines rest all.1)
+
+none_in : (log before : List Entry) → each_after refuses_not before log ≡ true → list_any is_refusal log ≡ false
+unfolding refuses_not
+none_in [] before e = refl
+none_in (x ∷ log) before e = let parts = and_parts (not (is_refusal x)) (each_after refuses_not (before ++ x ∷ []) log) e in
+    ap (λ b. b || list_any is_refusal log) (turned_off (is_refusal x) parts.0) ∙ none_in log (before ++ x ∷ []) parts.1 where
+      turned_off : (b : Bool) → not b ≡ true → b ≡ false
+      turned_off false e = refl
+      turned_off true e = absurd cc
+
+pub none_refused : (journal lines : List Line) (log : List Entry) (world : World) → AllLines is_without_refusal lines → log_from (world_new journal) lines ≡ Ok (log, world) → list_any is_refusal log ≡ false
+none_refused journal lines log world of is = none_in log [] ((holds_after (Tested journal Always refuses_not)
+    (keeps_tested journal Always refuses_not ⊥ AnyCount (λ left. tt) (λ l t w a b p. tt) none_plain (none_fed journal) (λ r. absurd r))
+    journal lines (refusing_lines lines of) (record { good = fresh journal; well = λ p. refl }) log world is).well tt)

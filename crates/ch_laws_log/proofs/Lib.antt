@@ -6,4 +6,6 @@ pub mod Agreeing
 pub mod Told
 pub mod Blocks
 pub mod OwnEntries
+pub mod Tested
 pub mod Feeding
+pub mod Happens

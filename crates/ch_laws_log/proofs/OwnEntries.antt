@@ -171,28 +171,36 @@ cells_stay n e f world = by_socket (find (is_socket_named n) world.sockets) wher
   by_socket None = refl
   by_socket (Some socket) = refl
 
+comes_there : (journal : List Line) (log : List Entry) (socket : WorldSocket) (world : World) (place : ℕ) → Good journal log world → IsIn socket world → socket.t.cell ≡ Some place → IsDone (after_entry (entries.Came socket.name) (comes_at place socket world))
+comes_there journal log socket world place g is e = let within = g.within socket.name socket place is e in entry_done (entries.Came socket.name) (comes_at place socket world) (by_cell within (slice_get world.cells place) (some_within world.cells place within)) where
+  came_there : Cell × ℕ → World
+  came_there cell = with_end_of socket.name T (λ end. record (opened end) { number = Some (2 * cell.1 + 1) }) (with_cell place (cell.0, cell.1 + 1) world)
+
+  there : (cell : Cell × ℕ) → place < length world.cells → place < length (came_there cell).cells
+  there cell within = subst (λ n. place < n) (sym (ap length (cells_stay socket.name T (λ end. record (opened end) { number = Some (2 * cell.1 + 1) }) (with_cell place (cell.0, cell.1 + 1) world)) ∙ length_set world.cells place (cell.0, cell.1 + 1))) within
+
+  by_cell : place < length world.cells → (o : Option (Cell × ℕ)) → is_some o ≡ true → IsDone (elim o as (λ o. Answered) [
+    | None ↦ Ok ((verdicts.Nothing, []), world)
+    | Some cell ↦ cell_hears place (events.Came (mark_of socket.o) (2 * cell.1 + 1) socket.from_host) (came_there cell)
+  ])
+  by_cell within None e = absurd cc
+  by_cell within (Some cell) e = hearing_done place (events.Came (mark_of socket.o) (2 * cell.1 + 1) socket.from_host) (came_there cell) (there cell within) (λ c. host_done verdicts.Ok c (host_on c.host (sockets.Came (2 * cell.1 + 1) socket.from_host)) refl)
+
+-- a socket whose target's end is of a cell has come
+pub comes_verdict : (journal : List Line) (log : List Entry) (socket : WorldSocket) (world : World) (place : ℕ) → Good journal log world → IsIn socket world → socket.t.cell ≡ Some place → IsDone (comes socket world)
+comes_verdict journal log socket world place g is e = subst (λ (o : Option ℕ). IsDone (elim o as (λ o. Answered) [
+  | None ↦ Ok ((verdicts.Nothing, []), world)
+  | Some place ↦ after_entry (entries.Came socket.name) (comes_at place socket world)
+])) (sym e) (comes_there journal log socket world place g is e)
+
 pub comes_done : (journal : List Line) (log : List Entry) (socket : WorldSocket) (world : World) → Good journal log world → IsIn socket world → AnsweredAlone (comes socket world)
 comes_done journal log socket world g is = by_place socket.t.cell refl where
-  came_there : ℕ → Cell × ℕ → World
-  came_there place cell = with_end_of socket.name T (λ end. record (opened end) { number = Some (2 * cell.1 + 1) }) (with_cell place (cell.0, cell.1 + 1) world)
-
-  there : (place : ℕ) (cell : Cell × ℕ) → place < length world.cells → place < length (came_there place cell).cells
-  there place cell within = subst (λ n. place < n) (sym (ap length (cells_stay socket.name T (λ end. record (opened end) { number = Some (2 * cell.1 + 1) }) (with_cell place (cell.0, cell.1 + 1) world)) ∙ length_set world.cells place (cell.0, cell.1 + 1))) within
-
-  by_cell : (place : ℕ) → place < length world.cells → (o : Option (Cell × ℕ)) → is_some o ≡ true → IsDone (elim o as (λ o. Answered) [
-    | None ↦ Ok ((verdicts.Nothing, []), world)
-    | Some cell ↦ cell_hears place (events.Came (mark_of socket.o) (2 * cell.1 + 1) socket.from_host) (came_there place cell)
-  ])
-  by_cell place within None e = absurd cc
-  by_cell place within (Some cell) e = hearing_done place (events.Came (mark_of socket.o) (2 * cell.1 + 1) socket.from_host) (came_there place cell) (there place cell within) (λ c. host_done verdicts.Ok c (host_on c.host (sockets.Came (2 * cell.1 + 1) socket.from_host)) refl)
-
   by_place : (o : Option ℕ) → socket.t.cell ≡ o → AnsweredAlone (elim o as (λ o. Answered) [
     | None ↦ Ok ((verdicts.Nothing, []), world)
     | Some place ↦ after_entry (entries.Came socket.name) (comes_at place socket world)
   ])
   by_place None e = refl
-  by_place (Some place) e = let within = g.within socket.name socket place is e in
-      alone_done (after_entry (entries.Came socket.name) (comes_at place socket world)) (entry_done (entries.Came socket.name) (comes_at place socket world) (by_cell place within (slice_get world.cells place) (some_within world.cells place within)))
+  by_place (Some place) e = alone_done (after_entry (entries.Came socket.name) (comes_at place socket world)) (comes_there journal log socket world place g is e)
 
 -- a timer that runs is heard
 times_done : (node peer : List ℕ) (world : World) → timer_runs_for world node peer ≡ true → AnsweredAlone (times_out node peer world)

@@ -1,5 +1,5 @@
 -- Which lines a law is about, and journals whose lines have rising numbers.
-use Rattle.std.specs.Prelude.{ℕ, ◌+◌, ◌≤◌, ◌≡◌, Bool, true, false, List, [], ◌∷◌}
+use Rattle.std.specs.Prelude.{ℕ, ◌+◌, ◌≤◌, ◌≡◌, Bool, true, false, List, [], ◌∷◌, nat_lt}
 use Rattle.ch_model.specs.declared.line.Line.{Line}
 use Rattle.ch_model.specs.declared.line.What.{What}
 use Rattle.ch_model.specs.declared.line.What.TheVariants as lines
@@ -38,3 +38,14 @@ is_of_network (lines.Poke sock bytes) = true
 is_of_network (lines.Quit sock) = true
 is_of_network lines.Settle = true
 is_of_network what = false
+
+-- a line that feeds asks for a byte at least
+abbrev pub feeds_some : What → Bool
+feeds_some (lines.Feed sock end count) = nat_lt 0 count
+feeds_some what = true
+
+-- no dial is refused by the line: it refuses none, and doesn't settle
+abbrev pub is_without_refusal : What → Bool
+is_without_refusal (lines.Refuse sock) = false
+is_without_refusal lines.Settle = false
+is_without_refusal what = true

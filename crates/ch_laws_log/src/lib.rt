@@ -7,19 +7,24 @@
 ghost use Rattle.std.specs.Prelude.{◌≡◌, ℕ, List, false, find, is_some, Some, Ok, IsTrue};
 ghost use Rattle.std.specs.List.{list_any};
 ghost use Rattle.ch_model.specs.declared.entry.Entry.{Entry};
+ghost use Rattle.ch_model.specs.declared.entry.Verdict.{Verdict};
 ghost use Rattle.ch_model.specs.declared.line.Line.{Line};
+ghost use Rattle.ch_model.specs.declared.line.What.TheVariants as events;
+ghost use Rattle.ch_model.specs.declared.name.End.{End};
 ghost use Rattle.ch_model.specs.declared.name.End.TheVariants.{O, T};
 ghost use Rattle.ch_model.specs.declared.name.SockName.{SockName};
-ghost use Rattle.ch_model.specs.AccountsBytes.{feeds_the_unread};
+ghost use Rattle.ch_model.specs.AccountsBytes.{feeds_the_unread, feeds_the_end};
+ghost use Rattle.ch_model.specs.Answers.{answer_to, ok_where};
 ghost use Rattle.ch_model.specs.AnswersEntries.{refuses};
 ghost use Rattle.ch_model.specs.HasAnswers.{marks_all, is_of_done, has_own_first};
-ghost use Rattle.ch_model.specs.Logs.{each, each_between};
+ghost use Rattle.ch_model.specs.Logs.{each, each_between, some_and};
 ghost use Rattle.ch_model.specs.Sockets.{is_opening};
 ghost use Rattle.ch_model.specs.World.{world_new, log_from, log_of};
+ghost use Rattle.ch_model.specs.WorldLines.{can_join, can_come, can_feed, line_done};
 ghost use Rattle.ch_model.specs.WorldSockets.{is_socket_named};
 ghost use Rattle.ch_model.specs.WorldState.{WorldSocket, World};
-ghost use Rattle.ch_laws_log.specs.Agrees.{IsPlaced, AllPlaced, IsAsTold, is_refusal};
-ghost use Rattle.ch_laws_log.specs.Lines.{AllLines, AreNumbered, is_of_no_end, is_of_network};
+ghost use Rattle.ch_laws_log.specs.Agrees.{IsPlaced, IsOwned, AllPlaced, IsAsTold, is_refusal};
+ghost use Rattle.ch_laws_log.specs.Lines.{AllLines, AreNumbered, is_of_no_end, is_of_network, feeds_some, is_without_refusal};
 
 /// The log of a journal marks each of its event lines once, in order, and no other line: whatever lines it has, in a
 /// settle too. Declarations have no mark.
@@ -52,8 +57,26 @@ pub fn sockets_as_told()
 {}
 
 /// No more bytes are fed to an end than were unread there by the log, and what is fed is their front, since bytes are
-/// unread in the order in which they were written. So it is after any lines, where each target's end is of a cell
-/// exactly if its name leads to a host, and no dial was refused.
+/// unread in the order in which they were written. The end of input is fed only where nothing is unread, and the
+/// other end has ended or this one was cut, if each line that feeds asks for a byte at least. So it is after any lines,
+/// where each target's end is of a cell exactly if its name leads to a host, and no dial was refused.
 pub fn fed_was_unread()
-    ensures { (journal lines : List Line) (log : List Entry) (world : World) → log_from (world_new journal) lines ≡ Ok (log, world) → AllPlaced journal world → list_any is_refusal log ≡ false → IsTrue (each (feeds_the_unread journal) log) }
+    ensures unread_alone { (journal lines : List Line) (log : List Entry) (world : World) → log_from (world_new journal) lines ≡ Ok (log, world) → AllPlaced journal world → list_any is_refusal log ≡ false → IsTrue (each (feeds_the_unread journal) log) }
+    ensures true_ends { (journal lines : List Line) (log : List Entry) (world : World) → AllLines feeds_some lines → log_from (world_new journal) lines ≡ Ok (log, world) → AllPlaced journal world → list_any is_refusal log ≡ false → IsTrue (each (feeds_the_end journal) log) }
+{}
+
+/// No dial is refused where no line refuses one or settles.
+pub fn none_refused_without()
+    ensures { (journal lines : List Line) (log : List Entry) (world : World) → AllLines is_without_refusal lines → log_from (world_new journal) lines ≡ Ok (log, world) → list_any is_refusal log ≡ false }
+{}
+
+/// After any lines the log shows of joining, coming and feeding just what the world's own test of the socket says: the
+/// line happens where the socket was opened, and its end stands, as the line asks. A line that comes is answered so.
+/// The others are answered by the end's host, which hears them.
+pub fn tests_as_told()
+    ensures join { (journal lines : List Line) (log : List Entry) (world : World) (s : SockName) → log_from (world_new journal) lines ≡ Ok (log, world) → AllPlaced journal world → list_any (refuses s) log ≡ false → answer_to journal log (events.Join s) ≡ ok_where (some_and can_join (find (is_socket_named s) world.sockets)) }
+    ensures come { (journal lines : List Line) (log : List Entry) (world : World) (s : SockName) → log_from (world_new journal) lines ≡ Ok (log, world) → AllPlaced journal world → answer_to journal log (events.Come s) ≡ ok_where (some_and can_come (find (is_socket_named s) world.sockets)) }
+    ensures feed { (journal lines : List Line) (log : List Entry) (world : World) (s : SockName) (e : End) (count : ℕ) → log_from (world_new journal) lines ≡ Ok (log, world) → AllPlaced journal world → ((socket : WorldSocket) → find (is_socket_named s) world.sockets ≡ Some socket → IsOwned journal socket) → list_any (refuses s) log ≡ false
+        → answer_to journal log (events.Feed s e count) ≡ ok_where (some_and (can_feed e) (find (is_socket_named s) world.sockets)) }
+    ensures came { (journal lines : List Line) (log : List Entry) (world : World) (s : SockName) (verdict : Verdict) (told : List Entry) (after : World) → log_from (world_new journal) lines ≡ Ok (log, world) → AllPlaced journal world → line_done (events.Come s) world ≡ Ok ((verdict, told), after) → verdict ≡ answer_to journal log (events.Come s) }
 {}
