@@ -26,7 +26,7 @@ use Rattle.ch_model.specs.WorldLines.{stranger_host}
 use Rattle.ch_model.specs.WorldSockets.{end_of, other, with_end, ended, cut, opened, arrives, item_arrives, end_of_nobody, is_socket_named, store_in, with_socket, with_end_of, find_end, next_name, is_host_of, cell_of, target_end, new_socket}
 use Rattle.ch_model.specs.WorldState.{Cell, WorldEnd, WorldSocket, World}
 use Rattle.ch_model.specs.WorldSteps.{note_entry, place_after, on_end, dials, first_place, later_places, item_is_read, reads_item, end_closes, stepped}
-use Rattle.ch_laws_log.specs.Seen.{SeenEnd, Seen, unseen, is_of, grown, raised, sees, seen_in, end_seen, stage_seen}
+use Rattle.ch_laws_log.proofs.Views.{SeenEnd, Seen, unseen, is_of, grown, raised, sees, seen_in, end_seen, stage_seen}
 use Rattle.ch_laws_log.proofs.Kept.{IsIn, stranger_socket, Keeps}
 use Rattle.ch_laws_log.proofs.Seen.{unmoved, moved, grown_is, raised_is, HasFront, UnreadIs, EndFits}
 use Rattle.ch_laws_log.proofs.Stored.{same_is, self_same, find_name, find_stored, IsHeld, found_end, Distinct, stored_distinct, Numbered, next_is_new, numbered_kept, numbered_new}

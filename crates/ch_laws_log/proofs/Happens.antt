@@ -23,7 +23,7 @@ use Rattle.ch_model.specs.WorldLines.{can_join, can_come, can_feed, line_done}
 use Rattle.ch_model.specs.WorldSockets.{is_of_host, is_socket_named}
 use Rattle.ch_model.specs.WorldState.{WorldEnd, WorldSocket, World}
 use Rattle.ch_laws_log.specs.Agrees.{IsPlaced, AllPlaced, IsAsTold, IsOwned}
-use Rattle.ch_laws_log.specs.Seen.{Seen, unseen, seen_in, stage_seen}
+use Rattle.ch_laws_log.proofs.Views.{Seen, unseen, seen_in, stage_seen}
 use Rattle.ch_laws_log.proofs.Agreeing.{Fits, At, Good}
 use Rattle.ch_laws_log.proofs.Kept.{IsIn}
 use Rattle.ch_laws_log.proofs.OwnEntries.{IsDone, comes_verdict}
@@ -146,12 +146,12 @@ feed_told journal log world s e count g placed owned not_refused = by_socket (fi
 
   by_end : (at : End) (socket : WorldSocket) → find (is_socket_named s) world.sockets ≡ Some socket → can_be_fed journal log s at ≡ can_feed at socket
   by_end O socket found = ap (λ b. b && (nat_lt 0 (length (unread journal log s O)) || has_ended_input journal log s O))
-          (ap (λ b. not (is_stranger journal s.from) && b) ((opener socket found).stands is_open)
-          ∙ swapped (not (is_stranger journal s.from)) (is_open socket.o.stage)
-          ∙ ap (λ b. is_open socket.o.stage && b) (sym (owned socket found ∙ ap (λ (n : SockName). not (is_stranger journal n.from)) (find_name s world.sockets socket found))))
+      (ap (λ b. not (is_stranger journal s.from) && b) ((opener socket found).stands is_open)
+      ∙ swapped (not (is_stranger journal s.from)) (is_open socket.o.stage)
+      ∙ ap (λ b. is_open socket.o.stage && b) (sym (owned socket found ∙ ap (λ (n : SockName). not (is_stranger journal n.from)) (find_name s world.sockets socket found))))
       ∙ ap (λ b. (is_open socket.o.stage && is_of_host socket.o) && b) (input O T socket.o socket.t refl (opener socket found) (target socket found))
   by_end T socket found = ap (λ b. b && (nat_lt 0 (length (unread journal log s T)) || has_ended_input journal log s T))
-          ((target socket found).stands is_open ∙ open_there socket.t.stage (is_of_host socket.t) (has_cell journal log world s socket g found (placed s socket found)))
+      ((target socket found).stands is_open ∙ open_there socket.t.stage (is_of_host socket.t) (has_cell journal log world s socket g found (placed s socket found)))
       ∙ ap (λ b. (is_open socket.t.stage && is_of_host socket.t) && b) (input T O socket.t socket.o refl (target socket found) (opener socket found))
 
   nowhere : (at : End) → find (is_socket_named s) world.sockets ≡ None → can_be_fed journal log s at ≡ false

@@ -1,3 +1,4 @@
+pub mod Views
 pub mod Marks
 pub mod Seen
 pub mod Stored
@@ -9,3 +10,6 @@ pub mod OwnEntries
 pub mod Tested
 pub mod Feeding
 pub mod Happens
+pub mod HostTold
+pub mod HostLinksTold
+pub mod HostItemsTold

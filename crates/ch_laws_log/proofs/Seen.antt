@@ -17,7 +17,7 @@ use Rattle.ch_model.specs.Sockets.{is_opening, opens_opener, opens_target, close
 use Rattle.ch_model.specs.Stages.{Stage, Pending, Open, Ended, is_ended}
 use Rattle.ch_model.specs.WorldState.{WorldEnd}
 use Rattle.ch_laws_log.specs.Agrees.{IsAsTold}
-use Rattle.ch_laws_log.specs.Seen.{SeenEnd, Seen, unseen, is_of, grown, raised, sees, sees_entry, seen_in, end_seen, stage_seen}
+use Rattle.ch_laws_log.proofs.Views.{SeenEnd, Seen, unseen, is_of, grown, raised, sees, sees_entry, seen_in, end_seen, stage_seen}
 
 fold_end : {A B : Type 0} (f : B → A → B) (a : B) (xs : List A) (x : A) → fold f a (xs ++ x ∷ []) ≡ f (fold f a xs) x
 fold_end f a [] x = refl

@@ -16,7 +16,7 @@ use Rattle.ch_model.specs.World.{world_new, log_from}
 use Rattle.ch_model.specs.WorldSockets.{is_socket_named}
 use Rattle.ch_model.specs.WorldState.{WorldSocket, World}
 use Rattle.ch_laws_log.specs.Agrees.{IsPlaced, IsAsTold}
-use Rattle.ch_laws_log.specs.Seen.{Seen, seen_in}
+use Rattle.ch_laws_log.proofs.Views.{Seen, seen_in}
 use Rattle.ch_laws_log.proofs.Agreeing.{Fits, At, Good, AnyCount, keeps_good}
 use Rattle.ch_laws_log.proofs.Kept.{Keeps, Allowed, AllAllowed, LedOn, all_led}
 use Rattle.ch_laws_log.proofs.Seen.{opened_is, refused_is, as_told}
