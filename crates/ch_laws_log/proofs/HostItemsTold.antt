@@ -67,7 +67,7 @@ pub record IsFound (socket : Socket) (host : HostState) : Type 0 where
   pub found : find (is_socket socket.number) host.sockets ≡ Some socket
   pub stands : is_open socket.stage ≡ true
 
-not_pending : (stage : Stage) → is_open stage ≡ true → is_pending stage ≡ true → ⊥
+pub not_pending : (stage : Stage) → is_open stage ≡ true → is_pending stage ≡ true → ⊥
 not_pending Open o p = absurd cc
 not_pending stage o p = absurd cc
 

@@ -54,7 +54,7 @@ find_stored socket (known ∷ rest) n = by_tests (known.number == socket.number)
 
 -- ---- one thing and then another
 
-all_after : (n : ℕ) (xs ys : List Step) (stage : Option Stage) → stage_after_all n (xs ++ ys) stage ≡ stage_after_all n ys (stage_after_all n xs stage)
+pub all_after : (n : ℕ) (xs ys : List Step) (stage : Option Stage) → stage_after_all n (xs ++ ys) stage ≡ stage_after_all n ys (stage_after_all n xs stage)
 all_after n [] ys stage = refl
 all_after n (x ∷ xs) ys stage = all_after n xs ys (stage_after n x stage)
 

@@ -13,3 +13,6 @@ pub mod Happens
 pub mod HostTold
 pub mod HostLinksTold
 pub mod HostItemsTold
+pub mod HostEventsTold
+pub mod Posts
+pub mod CellTold

@@ -1,6 +1,12 @@
 -- How a host's end of a socket stands, and what the steps that it tells say of it.
-use Rattle.std.specs.Prelude.{◌≡◌, ℕ, ◌+◌, ◌*◌, ◌≤◌, Bool, true, cond, ◌==◌, List, [], ◌∷◌, find, is_some, Option, Some, None, Result, Ok, Err}
+use Rattle.std.specs.Prelude.{◌≡◌, ℕ, ◌+◌, ◌*◌, ◌≤◌, Bool, true, false, cond, ◌==◌, List, [], ◌∷◌, find, is_some, Option, Some, None, Result, Ok, Err}
 use Rattle.std.specs.Option.{option_map}
+use Rattle.ch_model.specs.declared.local.LocalEntry.{LocalEntry}
+use Rattle.ch_model.specs.declared.local.LocalEntry.TheVariants as local
+use Rattle.ch_model.specs.declared.local.LocalEvent.{LocalEvent}
+use Rattle.ch_model.specs.declared.local.LocalEvent.TheVariants as locals
+use Rattle.ch_model.specs.declared.step.SocketEvent.{SocketEvent}
+use Rattle.ch_model.specs.declared.step.SocketEvent.TheVariants as events
 use Rattle.ch_model.specs.declared.step.Step.{Step}
 use Rattle.ch_model.specs.declared.step.Step.TheVariants as steps
 use Rattle.ch_model.specs.HostState.{Socket, HostState}
@@ -50,3 +56,21 @@ pub record Tells (before : HostState) (told : List Step) (after : HostState) : T
 abbrev pub AllTold : {E : Type 0} → HostState → Result (List Step × HostState) E → Type 0
 AllTold before (Ok done) = IsSound before → Tells before done.0 done.1
 AllTold before (Err e) = Unit {0}
+
+-- the event opens no end of a host
+abbrev pub opens_nothing : SocketEvent → Bool
+opens_nothing (events.Joined sock) = false
+opens_nothing (events.Came sock peer_host) = false
+opens_nothing event = true
+
+-- nor does what a cell hears
+abbrev pub opens_no_end : LocalEvent → Bool
+opens_no_end (locals.Came mark sock peer_host) = false
+opens_no_end (locals.Socket event) = opens_nothing event
+opens_no_end event = true
+
+-- the steps among what followed at a cell
+abbrev pub steps_in : List LocalEntry → List Step
+steps_in [] = []
+steps_in (local.Step step ∷ rest) = step ∷ steps_in rest
+steps_in (local.Note note ∷ rest) = steps_in rest

@@ -4,33 +4,39 @@
 //! host, stand beside.
 #![tactic(auto)]
 
-ghost use Rattle.std.specs.Prelude.{◌≡◌, ℕ, List, false, find, is_some, Some, Ok, IsTrue};
+ghost use Rattle.std.specs.Prelude.{◌≡◌, ℕ, List, true, false, find, is_some, Some, Ok, IsTrue};
 ghost use Rattle.std.specs.List.{list_any};
 ghost use Rattle.ch_base.specs.declared.address.Address.{Address};
 ghost use Rattle.ch_model.specs.declared.entry.Entry.{Entry};
 ghost use Rattle.ch_model.specs.declared.entry.Verdict.{Verdict};
 ghost use Rattle.ch_model.specs.declared.line.Line.{Line};
 ghost use Rattle.ch_model.specs.declared.line.What.TheVariants as events;
+ghost use Rattle.ch_model.specs.declared.local.LocalEntry.{LocalEntry};
+ghost use Rattle.ch_model.specs.declared.local.LocalEvent.{LocalEvent};
 ghost use Rattle.ch_model.specs.declared.name.End.{End};
 ghost use Rattle.ch_model.specs.declared.name.End.TheVariants.{O, T};
 ghost use Rattle.ch_model.specs.declared.name.SockName.{SockName};
+ghost use Rattle.ch_model.specs.declared.step.SocketEvent.{SocketEvent};
+ghost use Rattle.ch_model.specs.declared.step.SocketEvent.TheVariants as sockets;
 ghost use Rattle.ch_model.specs.declared.step.Step.{Step};
 ghost use Rattle.ch_model.specs.declared.step.Weight.{Weight};
 ghost use Rattle.ch_model.specs.AccountsBytes.{feeds_the_unread, feeds_the_end};
 ghost use Rattle.ch_model.specs.Answers.{answer_to, ok_where};
 ghost use Rattle.ch_model.specs.AnswersEntries.{refuses};
+ghost use Rattle.ch_model.specs.Cell.{cell_step};
 ghost use Rattle.ch_model.specs.HasAnswers.{marks_all, is_of_done, has_own_first};
-ghost use Rattle.ch_model.specs.Host.{host_next};
+ghost use Rattle.ch_model.specs.Host.{host_on, host_next};
 ghost use Rattle.ch_model.specs.HostCalls.{host_connect, host_send, host_close, host_close_endpoint};
 ghost use Rattle.ch_model.specs.HostState.{HostState};
 ghost use Rattle.ch_model.specs.Logs.{each, each_between, some_and};
 ghost use Rattle.ch_model.specs.Sockets.{is_opening};
+ghost use Rattle.ch_model.specs.Stages.{Pending, Open};
 ghost use Rattle.ch_model.specs.World.{world_new, log_from, log_of};
 ghost use Rattle.ch_model.specs.WorldLines.{can_join, can_come, can_feed, line_done};
 ghost use Rattle.ch_model.specs.WorldSockets.{is_socket_named};
-ghost use Rattle.ch_model.specs.WorldState.{WorldSocket, World};
+ghost use Rattle.ch_model.specs.WorldState.{Cell, WorldSocket, World};
 ghost use Rattle.ch_laws_log.specs.Agrees.{IsPlaced, IsOwned, AllPlaced, IsAsTold, is_refusal};
-ghost use Rattle.ch_laws_log.specs.HostEnds.{IsSound, Tells, AllTold};
+ghost use Rattle.ch_laws_log.specs.HostEnds.{stage_at, IsSound, Tells, AllTold, opens_nothing, opens_no_end, steps_in};
 ghost use Rattle.ch_laws_log.specs.Lines.{AllLines, AreNumbered, is_of_no_end, is_of_network, feeds_some, is_without_refusal};
 
 /// The log of a journal marks each of its event lines once, in order, and no other line: whatever lines it has, in a
@@ -89,13 +95,22 @@ pub fn tests_as_told()
 {}
 
 /// The steps that a host tells say how its ends of sockets stand: each end stands after them as they say, dials are of
-/// new sockets with even numbers, and a sound host stays so. So it is of each item that is handled, and of all that an
-/// endpoint asks. A host is sound whose sockets' numbers differ, whose next dials' numbers are free, and whose pending
+/// new sockets with even numbers, and a sound host stays so. So it is of what happens to a
+/// socket or a timer, but for an end that opens, of each item that is handled, and of all that an endpoint asks. An end
+/// that was pending and is joined is open. A host is sound whose sockets' numbers differ, whose next dials' numbers are free, and whose pending
 /// sockets are each of a link.
 pub fn hosts_tell_ends()
+    ensures on { (host : HostState) (event : SocketEvent) → opens_nothing event ≡ true → AllTold host (host_on host event) }
+    ensures joined { (host after : HostState) (sock : ℕ) (told : List Step) → IsSound host → host_on host (sockets.Joined sock) ≡ Ok (told, after) → stage_at host sock ≡ Some Pending → stage_at after sock ≡ Some Open }
     ensures next { (host after : HostState) (told : List Step) → IsSound host → host_next host ≡ Ok (Some told, after) → Tells host told after }
     ensures connect { (host : HostState) (end : ℕ) (peer : Address) (conn : ℕ) → AllTold host (host_connect host end peer conn) }
     ensures send { (host : HostState) (end conn : ℕ) (payload : List ℕ) (weight : Weight) → AllTold host (host_send host end conn payload weight) }
     ensures close { (host : HostState) (end conn : ℕ) → AllTold host (host_close host end conn) }
     ensures close_endpoint { (host : HostState) (end : ℕ) → AllTold host (host_close_endpoint host end) }
+{}
+
+/// So it is of a cell, a host with its nodes: of all that followed on an event that opens no end of the host, the steps,
+/// in the order in which they were told, say how the ends stand after it.
+pub fn cells_tell_ends()
+    ensures { (cell after : Cell) (event : LocalEvent) (verdict : Verdict) (told : List LocalEntry) → opens_no_end event ≡ true → IsSound cell.host → cell_step cell event ≡ Ok ((verdict, told), after) → Tells cell.host (steps_in told) after.host }
 {}

@@ -1,5 +1,12 @@
 use Rattle.ch_laws_log.proofs.HostItemsTold.{next_told, connected, sent, closed_conn, endpoint_closed}
+use Rattle.ch_laws_log.proofs.HostEventsTold.{event_told, joined_told}
 use Rattle.ch_laws_log.proofs.hosts_tell_ends.Goals as goal
+
+pub returns-clause-on : goal.returns-clause-on
+returns-clause-on c = event_told
+
+pub returns-clause-joined : goal.returns-clause-joined
+returns-clause-joined c = joined_told
 
 pub returns-clause-next : goal.returns-clause-next
 returns-clause-next c = next_told
