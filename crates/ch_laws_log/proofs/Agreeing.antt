@@ -1,12 +1,11 @@
 -- The world's sockets agree with the log: each single thing that happens keeps it so.
-use Rattle.std.proofs.Common.{◌≡◌, ℕ, zero, suc, ◌+◌, ◌<◌, Bool, true, false, cond, not, ◌&&◌, ◌||◌, List, [], ◌∷◌, ◌++◌, length, take, drop, Ok, Err, refl, sym, ap, ◌∙◌, subst, append_assoc, length-append, arith}
+use Rattle.std.proofs.Common.{◌≡◌, ℕ, zero, suc, ◌+◌, ◌<◌, Bool, true, false, cond, not, ◌||◌, List, [], ◌∷◌, ◌++◌, length, take, drop, refl, sym, ap, ◌∙◌, subst, append_assoc, length-append, arith}
 use Rattle.std.proofs.lemmas.List.{append-nil, take-append-drop}
 use Rattle.std.proofs.lemmas.List.Quantifiers.{position-Some}
-use Rattle.std.specs.Prelude.{find, is_some, position, slice_get, slice_set, count_by, Option, Some, None}
+use Rattle.std.specs.Prelude.{find, is_some, position, slice_get, slice_set, Option, Some, None}
 use Rattle.ch_base.specs.declared.address.Address.{Address}
 use Rattle.ch_model.specs.declared.entry.Entry.{Entry}
 use Rattle.ch_model.specs.declared.entry.Entry.TheVariants as entries
-use Rattle.ch_model.specs.declared.entry.Verdict.{Verdict}
 use Rattle.ch_model.specs.declared.line.Line.{Line}
 use Rattle.ch_model.specs.declared.name.End.{End}
 use Rattle.ch_model.specs.declared.name.End.TheVariants.{O, T}
@@ -19,17 +18,17 @@ use Rattle.ch_model.specs.declared.step.Step.TheVariants as steps
 use Rattle.ch_model.specs.Declarations.{has_host}
 use Rattle.ch_model.specs.HostSteps.{own_address}
 use Rattle.ch_model.specs.Naming.{Names, called, address_as}
-use Rattle.ch_model.specs.Same.{same_socket, same_end, across}
-use Rattle.ch_model.specs.Stages.{Stage, Pending, Open, Ended, is_pending, is_open, is_ended}
+use Rattle.ch_model.specs.Same.{same_socket}
+use Rattle.ch_model.specs.Stages.{Stage, Pending, Open, Ended, is_pending, is_ended}
 use Rattle.ch_model.specs.WorldHappenings.{with_cell}
 use Rattle.ch_model.specs.WorldLines.{stranger_host}
-use Rattle.ch_model.specs.WorldSockets.{end_of, other, with_end, ended, cut, opened, arrives, item_arrives, end_of_nobody, is_socket_named, store_in, with_socket, with_end_of, find_end, next_name, is_host_of, cell_of, target_end, new_socket}
+use Rattle.ch_model.specs.WorldSockets.{end_of, other, with_end, ended, cut, opened, arrives, item_arrives, end_of_nobody, is_socket_named, with_socket, with_end_of, find_end, next_name, is_host_of, cell_of, target_end, new_socket}
 use Rattle.ch_model.specs.WorldState.{Cell, WorldEnd, WorldSocket, World}
-use Rattle.ch_model.specs.WorldSteps.{note_entry, place_after, on_end, dials, first_place, later_places, item_is_read, reads_item, end_closes, stepped}
-use Rattle.ch_laws_log.proofs.Views.{SeenEnd, Seen, unseen, is_of, grown, raised, sees, seen_in, end_seen, stage_seen}
-use Rattle.ch_laws_log.proofs.Kept.{IsIn, stranger_socket, Keeps}
+use Rattle.ch_model.specs.WorldSteps.{note_entry, place_after, on_end, later_places, item_is_read, reads_item, end_closes, stepped}
+use Rattle.ch_laws_log.proofs.Views.{SeenEnd, Seen, unseen, is_of, grown, raised, sees, seen_in, stage_seen}
+use Rattle.ch_laws_log.proofs.Kept.{IsIn, Keeps}
 use Rattle.ch_laws_log.proofs.Seen.{unmoved, moved, grown_is, raised_is, HasFront, UnreadIs, EndFits}
-use Rattle.ch_laws_log.proofs.Stored.{same_is, self_same, find_name, find_stored, IsHeld, found_end, Distinct, stored_distinct, Numbered, next_is_new, numbered_kept, numbered_new}
+use Rattle.ch_laws_log.proofs.Stored.{same_is, self_same, find_name, find_stored, found_end, Distinct, stored_distinct, Numbered, next_is_new, numbered_kept, numbered_new}
 
 -- ---- a socket
 

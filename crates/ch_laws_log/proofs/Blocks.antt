@@ -4,7 +4,7 @@ use Rattle.std.proofs.lemmas.Bool.{ne_eqb, eq-eqb}
 use Rattle.std.proofs.lemmas.List.{append-nil}
 use Rattle.std.specs.List.{fold}
 use Rattle.std.specs.Option.{option_map}
-use Rattle.std.specs.Prelude.{filter_map, find, is_some, Option, Some, None, IsTrue, ◌==◌}
+use Rattle.std.specs.Prelude.{find, Option, Some, None, IsTrue, ◌==◌}
 use Rattle.ch_model.specs.declared.entry.Entry.{Entry}
 use Rattle.ch_model.specs.declared.entry.Entry.TheVariants as entries
 use Rattle.ch_model.specs.declared.entry.Verdict.{Verdict}
@@ -13,7 +13,7 @@ use Rattle.ch_model.specs.declared.line.Line.{Line}
 use Rattle.ch_model.specs.declared.line.What.{What}
 use Rattle.ch_model.specs.declared.line.What.TheVariants as lines
 use Rattle.ch_model.specs.AnswersOwn.{is_own, has_own}
-use Rattle.ch_model.specs.HasAnswers.{mark_number, is_of_done, is_followed_by_own, has_own_first}
+use Rattle.ch_model.specs.HasAnswers.{is_of_done, is_followed_by_own, has_own_first}
 use Rattle.ch_model.specs.Logs.{last_of, or_else, some_and, next_is, each_after, each_between_after}
 use Rattle.ch_model.specs.Marks.{line_numbered, done_by, is_mark, mark_of, current_line}
 use Rattle.ch_model.specs.Settle.{Happened, settles, weight_of, from_start}

@@ -1,5 +1,5 @@
 -- What follows at a cell tells how the ends of its host stand.
-use Rattle.std.proofs.Common.{◌≡◌, ℕ, zero, suc, ◌+◌, ◌*◌, Bool, true, false, List, [], ◌∷◌, ◌++◌, Ok, Err, refl, sym, ap, ◌∙◌, subst, append_assoc}
+use Rattle.std.proofs.Common.{◌≡◌, ℕ, zero, suc, ◌+◌, ◌*◌, true, List, [], ◌∷◌, ◌++◌, Ok, Err, refl, sym, ap, ◌∙◌, subst, append_assoc}
 use Rattle.std.proofs.lemmas.List.{append-nil}
 use Rattle.std.specs.Prelude.{find, Result, Option, Some, None}
 use Rattle.ch_base.specs.declared.event.Event.{Event}
@@ -19,7 +19,7 @@ use Rattle.ch_model.specs.declared.step.EndError.TheVariants as errors
 use Rattle.ch_model.specs.declared.step.Step.{Step}
 use Rattle.ch_model.specs.declared.step.Step.TheVariants as steps
 use Rattle.ch_model.specs.Cell.{Celled, answered, refused, refusal, node_did, at_node, commanded, room_for, closes_after, shut_node, host_did, heard_as, cell_step}
-use Rattle.ch_model.specs.CellSteps.{Followed, after_entries, ◌then◌, is_at, with_node, told_steps, asked, act_on, acts_on, node_followed, posted, step_on, steps_on, kept_bytes, items_on, all_items}
+use Rattle.ch_model.specs.CellSteps.{Followed, after_entries, ◌then◌, is_at, with_node, told_steps, asked, act_on, acts_on, node_followed, posted, steps_on, kept_bytes, items_on, all_items}
 use Rattle.ch_model.specs.Host.{host_on, host_next}
 use Rattle.ch_model.specs.HostCalls.{host_connect, host_send, host_close, host_close_endpoint}
 use Rattle.ch_model.specs.HostState.{HostState}
@@ -28,7 +28,7 @@ use Rattle.ch_model.specs.Node.{node_make, node_command, node_event, node_shut, 
 use Rattle.ch_model.specs.NodeState.{NodeState}
 use Rattle.ch_model.specs.Stages.{Stage}
 use Rattle.ch_model.specs.WorldState.{Cell}
-use Rattle.ch_laws_log.specs.HostEnds.{stage_at, stage_after, stage_after_all, AreNewTo, IsSound, Tells, AllTold, steps_in, opens_no_end}
+use Rattle.ch_laws_log.specs.HostEnds.{stage_at, stage_after, AreNewTo, IsSound, Tells, AllTold, steps_in, opens_no_end}
 use Rattle.ch_laws_log.proofs.HostTold.{all_after, onward, at_rest}
 use Rattle.ch_laws_log.proofs.HostItemsTold.{next_told, connected, sent, closed_conn, endpoint_closed}
 use Rattle.ch_laws_log.proofs.HostEventsTold.{event_told}

@@ -1,9 +1,8 @@
 -- Joining, coming and feeding happen where the log shows that they can.
-use Rattle.std.proofs.Common.{◌≡◌, ℕ, ◌<◌, Bool, true, false, cond, not, ◌&&◌, ◌||◌, List, [], ◌∷◌, length, Ok, Err, refl, sym, ap, ◌∙◌, subst}
+use Rattle.std.proofs.Common.{◌≡◌, ℕ, Bool, true, false, cond, not, ◌&&◌, ◌||◌, List, [], length, Ok, Err, refl, sym, ap, ◌∙◌, subst}
 use Rattle.std.specs.List.{list_any}
 use Rattle.std.specs.Prelude.{find, is_some, nat_lt, Option, Some, None}
 use Rattle.ch_model.specs.declared.entry.Entry.{Entry}
-use Rattle.ch_model.specs.declared.entry.Entry.TheVariants as entries
 use Rattle.ch_model.specs.declared.entry.Verdict.{Verdict}
 use Rattle.ch_model.specs.declared.entry.Verdict.TheVariants as verdicts
 use Rattle.ch_model.specs.declared.line.Line.{Line}
@@ -11,20 +10,20 @@ use Rattle.ch_model.specs.declared.line.What.TheVariants as lines
 use Rattle.ch_model.specs.declared.name.End.{End}
 use Rattle.ch_model.specs.declared.name.End.TheVariants.{O, T}
 use Rattle.ch_model.specs.declared.name.SockName.{SockName}
-use Rattle.ch_model.specs.Answers.{ok_where, is_open_end, can_be_fed, answer_to}
+use Rattle.ch_model.specs.Answers.{ok_where, can_be_fed, answer_to}
 use Rattle.ch_model.specs.AnswersEntries.{refuses}
 use Rattle.ch_model.specs.Declarations.{has_host, is_stranger}
 use Rattle.ch_model.specs.Logs.{some_and}
 use Rattle.ch_model.specs.Same.{across}
-use Rattle.ch_model.specs.Sockets.{is_opening, closes, unclosed_state, end_state, stands_at, unread, is_cut, has_ended_input}
+use Rattle.ch_model.specs.Sockets.{is_opening, closes, unclosed_state, stands_at, unread, is_cut, has_ended_input}
 use Rattle.ch_model.specs.Stages.{Stage, Pending, Open, Ended, is_pending, is_open, is_ended}
-use Rattle.ch_model.specs.WorldHappenings.{Answered, after_entry, comes_at, comes}
+use Rattle.ch_model.specs.WorldHappenings.{Answered, comes}
 use Rattle.ch_model.specs.WorldLines.{can_join, can_come, can_feed, line_done}
 use Rattle.ch_model.specs.WorldSockets.{is_of_host, is_socket_named}
 use Rattle.ch_model.specs.WorldState.{WorldEnd, WorldSocket, World}
 use Rattle.ch_laws_log.specs.Agrees.{IsPlaced, AllPlaced, IsAsTold, IsOwned}
-use Rattle.ch_laws_log.proofs.Views.{Seen, unseen, seen_in, stage_seen}
-use Rattle.ch_laws_log.proofs.Agreeing.{Fits, At, Good}
+use Rattle.ch_laws_log.proofs.Views.{Seen, seen_in, stage_seen}
+use Rattle.ch_laws_log.proofs.Agreeing.{At, Good}
 use Rattle.ch_laws_log.proofs.Kept.{IsIn}
 use Rattle.ch_laws_log.proofs.OwnEntries.{IsDone, comes_verdict}
 use Rattle.ch_laws_log.proofs.Seen.{opened_is}

@@ -1,24 +1,22 @@
 -- What a host makes of events tells how its ends stand.
-use Rattle.std.proofs.Common.{◌≡◌, ℕ, ◌+◌, ◌*◌, ◌≤◌, Bool, true, false, cond, List, [], ◌∷◌, ◌++◌, Ok, Err, refl, sym, ap, ◌∙◌, subst, arith}
+use Rattle.std.proofs.Common.{◌≡◌, ℕ, Bool, true, false, cond, List, ◌++◌, Ok, Err, refl, sym, ap, ◌∙◌, subst}
 use Rattle.std.specs.Option.{option_map}
-use Rattle.std.specs.Prelude.{find, is_some, ◌==◌, Result, Option, Some, None}
+use Rattle.std.specs.Prelude.{find, is_some, ◌==◌, Option, Some, None}
 use Rattle.ch_base.specs.declared.address.Address.{Address}
-use Rattle.ch_base.specs.declared.memory.Stop.{Stop}
 use Rattle.ch_wire.specs.Spelling.{request_spelling}
 use Rattle.ch_link.specs.declared.LinkIn.TheVariants.{Late}
 use Rattle.ch_model.specs.declared.step.SocketEvent.{SocketEvent}
 use Rattle.ch_model.specs.declared.step.SocketEvent.TheVariants as events
 use Rattle.ch_model.specs.declared.step.Step.{Step}
-use Rattle.ch_model.specs.declared.step.Step.TheVariants as steps
-use Rattle.ch_model.specs.Host.{on_socket, joins, accepted, keeps, host_on}
-use Rattle.ch_model.specs.HostCalls.{host_timer_runs}
+use Rattle.ch_model.specs.Host.{on_socket, joins, keeps, host_on}
+use Rattle.ch_model.specs.HostCalls.{host_new, host_timer_runs}
 use Rattle.ch_model.specs.HostItems.{is_gone}
 use Rattle.ch_model.specs.HostLinks.{hears}
 use Rattle.ch_model.specs.HostState.{Socket, HostState}
 use Rattle.ch_model.specs.HostSteps.{Stepped, still, is_socket, link_with, own_address, with_socket}
 use Rattle.ch_model.specs.HostWrites.{writes}
 use Rattle.ch_model.specs.Stages.{Stage, Pending, Open, Ended, is_pending, is_open}
-use Rattle.ch_laws_log.specs.HostEnds.{stage_at, stage_after_all, IsSound, Tells, AllTold, opens_nothing}
+use Rattle.ch_laws_log.specs.HostEnds.{stage_at, IsSound, AllTold, opens_nothing}
 use Rattle.ch_laws_log.proofs.HostTold.{number_found, at_rest}
 use Rattle.ch_laws_log.proofs.HostTold as told
 use Rattle.ch_laws_log.proofs.HostLinksTold.{heard}
@@ -89,3 +87,7 @@ joined_told host after sock told_steps s is pending = by_socket (find (is_socket
   ]) ≡ Ok (told_steps, after) → option_map (λ (w : Socket). w.stage) o ≡ Some Pending → stage_at after sock ≡ Some Open
   by_socket None found is p = absurd cc
   by_socket (Some socket) found is p = by_test socket found (is_pending socket.stage) refl is (some_stage socket.stage p)
+
+-- a host that has done nothing is sound
+pub fresh_sound : (host : List ℕ) (port : ℕ) (circle : List (List ℕ)) → IsSound (host_new host port circle)
+fresh_sound host port circle = record { apart = tt; free = λ k l. refl; used = λ n socket f. absurd cc }

@@ -1,13 +1,11 @@
 -- What a host makes of events and items tells how its ends stand.
-use Rattle.std.proofs.Common.{◌≡◌, ℕ, ◌+◌, ◌*◌, Bool, true, false, cond, ◌&&◌, List, [], ◌∷◌, ◌++◌, drop, Ok, Err, refl, sym, ap, ◌∙◌, subst}
-use Rattle.std.proofs.lemmas.Bool.{and_parts}
-use Rattle.std.specs.Prelude.{find, is_some, ◌==◌, Result, Option, Some, None, nat_lt}
+use Rattle.std.proofs.Common.{◌≡◌, ℕ, ◌+◌, Bool, true, false, cond, ◌&&◌, List, [], ◌∷◌, drop, Ok, Err, refl, ap, ◌∙◌, subst}
+use Rattle.std.specs.Prelude.{find, ◌==◌, Result, Option, Some, None, nat_lt}
 use Rattle.ch_base.specs.declared.address.Address.{Address}
 use Rattle.ch_base.specs.declared.event.Event.{Event}
 use Rattle.ch_base.specs.declared.event.Event.TheVariants as events
 use Rattle.ch_base.specs.declared.memory.Stop.{Stop}
 use Rattle.ch_base.specs.declared.memory.Stop.TheVariants as stops
-use Rattle.ch_wire.specs.Spelling.{request_spelling}
 use Rattle.ch_wire.specs.declared.answer.Answer.{Answer}
 use Rattle.ch_wire.specs.declared.frame.Frame.{Frame}
 use Rattle.ch_wire.specs.declared.frame.Frame.TheVariants as frames
@@ -35,9 +33,9 @@ use Rattle.ch_model.specs.HostLinks.{next_dial, hears}
 use Rattle.ch_model.specs.HostItems.{most_arrived, posts, gone_from, is_gone, refusal_of, asks_link, reads_request, heard_answer, arrived_at, with_arrival, next_arrival, arrives, closes, receives, reads_frame, reads_on, reads_other, reads}
 use Rattle.ch_model.specs.HostCalls.{◌>>=◌, stepped, of_ids, open_endpoint, wants, puts_and_wants, host_connect, carries, found_or, short_enough, has_room, host_send, host_close, shuts_links, closes_endpoint, host_close_endpoint}
 use Rattle.ch_model.specs.Stages.{Stage, Open, is_pending, is_open}
-use Rattle.ch_laws_items.proofs.Next.{Served, served}
+use Rattle.ch_laws_items.proofs.Next.{served}
 use Rattle.ch_laws_log.specs.HostEnds.{IsSound, Tells, AllTold}
-use Rattle.ch_laws_log.proofs.HostTold.{number_same, number_found, find_stored, onward, chained, from_told, same, at_rest, plain_first, keeps, ends}
+use Rattle.ch_laws_log.proofs.HostTold.{number_same, find_stored, onward, chained, from_told, same, at_rest, plain_first, keeps, ends}
 use Rattle.ch_laws_log.proofs.HostLinksTold.{answered, heard, put}
 
 posted : (end : ℕ) (event : Event) (before after : HostState) → (IsSound before → Tells before [] after) → AllTold before (posts end event after)

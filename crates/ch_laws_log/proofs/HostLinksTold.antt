@@ -1,5 +1,5 @@
 -- What a host does for its links tells how its ends stand.
-use Rattle.std.proofs.Common.{◌≡◌, ℕ, ◌+◌, ◌*◌, Bool, true, false, cond, List, [], ◌∷◌, ◌++◌, Ok, Err, refl, sym, ap, subst}
+use Rattle.std.proofs.Common.{◌≡◌, ℕ, ◌+◌, ◌*◌, Bool, true, false, cond, List, [], ◌∷◌, ◌++◌, Ok, Err, refl, sym, subst}
 use Rattle.std.specs.Prelude.{nat_lt, None}
 use Rattle.ch_base.specs.declared.memory.Stop.TheVariants as stops
 use Rattle.ch_wire.specs.Spelling.{answer_spelling, frame_spelling}
@@ -17,16 +17,15 @@ use Rattle.ch_link.specs.declared.LinkIn.{LinkIn}
 use Rattle.ch_link.specs.declared.LinkIn.TheVariants as inputs
 use Rattle.ch_link.specs.declared.LinkState.{LinkState}
 use Rattle.ch_link.specs.declared.LinkState.TheVariants as states
-use Rattle.ch_model.specs.declared.step.Step.{Step}
 use Rattle.ch_model.specs.declared.step.Step.TheVariants as steps
 use Rattle.ch_model.specs.declared.step.Weight.{Weight}
 use Rattle.ch_model.specs.Greater.{is_greater}
-use Rattle.ch_model.specs.HostLinks.{most_dials, dialed, dials_for, next_dial, accepts_on, asked_on, wanted_on, fails_with, says_closed, raised, acknowledged, does_act, hears}
+use Rattle.ch_model.specs.HostLinks.{most_dials, dialed, dials_for, accepts_on, asked_on, wanted_on, fails_with, says_closed, raised, acknowledged, does_act, hears}
 use Rattle.ch_model.specs.HostState.{Link, HostState}
 use Rattle.ch_model.specs.HostSteps.{Stepped, still, does, ◌then◌, own_address, with_link, with_socket}
-use Rattle.ch_model.specs.HostWrites.{writes, leaves, goes_down, answers_and_leaves, flushes_to, puts, frame_step, forgotten, leaves_off}
-use Rattle.ch_laws_log.specs.HostEnds.{IsSound, Tells, AllTold}
-use Rattle.ch_laws_log.proofs.HostTold.{onward, chained, from_told, same, at_rest, plain_first, frames_first, ends, ends_down, dials_next}
+use Rattle.ch_model.specs.HostWrites.{writes, leaves, answers_and_leaves, flushes_to, puts, frame_step, forgotten, leaves_off}
+use Rattle.ch_laws_log.specs.HostEnds.{AllTold}
+use Rattle.ch_laws_log.proofs.HostTold.{chained, from_told, same, at_rest, plain_first, frames_first, ends, ends_down, dials_next}
 
 -- one plain step
 one_plain : (host : HostState) (sock : ℕ) (bytes : List ℕ) → AllTold host (writes sock bytes host)

@@ -1,5 +1,5 @@
 -- The parts of what a host does tell how its ends stand.
-use Rattle.std.proofs.Common.{◌≡◌, ◌≤◌, ◌<◌, ℕ, zero, suc, ◌+◌, ◌*◌, Bool, true, false, cond, List, [], ◌∷◌, ◌++◌, map, Ok, Err, refl, sym, ap, ◌∙◌, subst, arith}
+use Rattle.std.proofs.Common.{◌≡◌, ◌≤◌, ℕ, ◌+◌, ◌*◌, Bool, true, false, cond, List, [], ◌∷◌, ◌++◌, map, Ok, Err, refl, sym, ap, ◌∙◌, subst, arith}
 use Rattle.std.proofs.lemmas.Bool.Decides.{nat_tests}
 use Rattle.std.specs.Option.{option_map}
 use Rattle.std.specs.Prelude.{find, is_some, Option, Some, None, ◌==◌}
@@ -9,7 +9,7 @@ use Rattle.ch_model.specs.declared.step.Step.{Step}
 use Rattle.ch_model.specs.declared.step.Step.TheVariants as steps
 use Rattle.ch_model.specs.declared.step.Weight.{Weight}
 use Rattle.ch_model.specs.HostLinks.{dialed}
-use Rattle.ch_model.specs.HostState.{Link, Socket, HostState}
+use Rattle.ch_model.specs.HostState.{Socket, HostState}
 use Rattle.ch_model.specs.HostSteps.{Stepped, after_steps, ◌then◌, is_socket, store_socket, with_socket}
 use Rattle.ch_model.specs.HostWrites.{frame_step, ended_in, end_socket}
 use Rattle.ch_model.specs.Stages.{Stage, Pending, Ended, is_pending}

@@ -1,9 +1,8 @@
 -- What each single thing that happens keeps of a log and its world is kept by all lines, settling included.
-use Rattle.std.proofs.Common.{◌≡◌, ℕ, zero, suc, ◌+◌, ◌*◌, Bool, true, false, cond, not, ◌&&◌, List, [], ◌∷◌, ◌++◌, length, take, drop, Ok, Err, refl, sym, ap, ◌∙◌, subst, append_assoc}
+use Rattle.std.proofs.Common.{◌≡◌, ℕ, zero, suc, ◌+◌, ◌*◌, Bool, true, false, cond, ◌&&◌, List, [], ◌∷◌, ◌++◌, length, take, drop, Ok, Err, refl, sym, ap, subst, append_assoc}
 use Rattle.std.proofs.lemmas.Bool.{and_parts}
 use Rattle.std.proofs.lemmas.List.{append-nil}
-use Rattle.std.specs.Prelude.{find, is_some, slice_get, Result, Option, Some, None}
-use Rattle.ch_base.specs.declared.memory.Stop.{Stop}
+use Rattle.std.specs.Prelude.{find, is_some, slice_get, Option, Some, None}
 use Rattle.ch_static.specs.declared.command.Command.{Command}
 use Rattle.ch_model.specs.declared.entry.Entry.{Entry}
 use Rattle.ch_model.specs.declared.entry.Entry.TheVariants as entries
@@ -31,10 +30,10 @@ use Rattle.ch_model.specs.Stages.{Stage, Pending, Open, Ended, is_pending, is_op
 use Rattle.ch_model.specs.Timers.{timer_runs_for, all_links}
 use Rattle.ch_model.specs.World.{◌>>=◌, event_step, world_step, line_answered, line_settled, log_from}
 use Rattle.ch_model.specs.WorldHappenings.{Answered, after_entry, cell_told, cell_hears, end_hears, with_cell, joins, refuses, comes_at, comes, hands, feeds, loses, times_out, mark_of}
-use Rattle.ch_model.specs.WorldLines.{command_as, node_hears, on_socket, can_join, can_come, can_refuse, can_feed, can_cut, is_at_work, cuts, is_strangers, knocks, pokes, quits, stranger_host, other_line, line_done}
-use Rattle.ch_model.specs.WorldSockets.{end_of, end_of_nobody, ended, cut, opened, arrives, is_of_host, has_input, find_end, is_socket_named, cell_of, with_end_of, with_socket, new_socket}
+use Rattle.ch_model.specs.WorldLines.{command_as, node_hears, on_socket, can_join, can_come, can_refuse, can_feed, can_cut, is_at_work, cuts, is_strangers, pokes, quits, stranger_host, other_line, line_done}
+use Rattle.ch_model.specs.WorldSockets.{end_of, end_of_nobody, ended, cut, opened, arrives, is_of_host, has_input, is_socket_named, cell_of, with_end_of, with_socket, new_socket}
 use Rattle.ch_model.specs.WorldState.{Cell, WorldEnd, WorldSocket, World}
-use Rattle.ch_model.specs.WorldSteps.{note_entry, place_after, stepped, local_told, after_told, all_told}
+use Rattle.ch_model.specs.WorldSteps.{note_entry, place_after, stepped, local_told, all_told}
 use Rattle.ch_laws_log.proofs.Stored.{Distinct, self_same, find_name, found_before}
 
 -- the socket stands at its name in the world

@@ -1,9 +1,8 @@
 -- What each line does: nothing is told where it isn't done, and its own entry stands first where it is.
-use Rattle.std.proofs.Common.{◌≡◌, ℕ, ◌+◌, ◌*◌, ◌<◌, length, Bool, true, false, cond, not, ◌&&◌, ◌||◌, List, [], ◌∷◌, ◌++◌, Ok, Err, refl, sym, ap, ◌∙◌, subst}
+use Rattle.std.proofs.Common.{◌≡◌, ℕ, ◌+◌, ◌*◌, ◌<◌, length, Bool, true, false, cond, not, ◌&&◌, ◌||◌, List, [], ◌∷◌, Ok, Err, refl, sym, ap, ◌∙◌, subst}
 use Rattle.std.specs.Str.{bytes_eq}
-use Rattle.std.specs.Prelude.{find, is_some, slice_get, Result, Option, Some, None, IsTrue}
+use Rattle.std.specs.Prelude.{find, is_some, slice_get, Result, Option, Some, None}
 use Rattle.ch_base.specs.declared.address.Address.{Address}
-use Rattle.ch_base.specs.declared.memory.Stop.{Stop}
 use Rattle.ch_static.specs.declared.command.Command.{Command}
 use Rattle.ch_model.specs.declared.act.Act.{Act}
 use Rattle.ch_model.specs.declared.command.CommandError.{CommandError}
@@ -25,19 +24,17 @@ use Rattle.ch_model.specs.declared.name.SockName.{SockName}
 use Rattle.ch_model.specs.declared.step.SocketEvent.{SocketEvent}
 use Rattle.ch_model.specs.declared.step.SocketEvent.TheVariants as sockets
 use Rattle.ch_model.specs.AnswersOwn.{is_own, has_own}
-use Rattle.ch_model.specs.Cell.{Celled, answered, refused, refusal, node_did, at_node, commanded, room_for, shut_node, host_did, heard_as, is_heard, cell_step}
+use Rattle.ch_model.specs.Cell.{Celled, answered, refused, refusal, node_did, at_node, commanded, room_for, shut_node, host_did, heard_as, cell_step}
 use Rattle.ch_model.specs.CellSteps.{Followed, is_at}
 use Rattle.ch_model.specs.Host.{host_on}
 use Rattle.ch_model.specs.HostCalls.{host_timer_runs}
 use Rattle.ch_model.specs.HostSteps.{Stepped}
-use Rattle.ch_model.specs.HostState.{HostState}
-use Rattle.ch_model.specs.Logs.{next_is}
 use Rattle.ch_model.specs.Naming.{address_as, named_as}
 use Rattle.ch_model.specs.Node.{node_make, node_command, node_shut, target_node}
 use Rattle.ch_model.specs.NodeState.{NodeState}
 use Rattle.ch_model.specs.Same.{same_socket, same_end}
 use Rattle.ch_model.specs.Timers.{timer_runs_for}
-use Rattle.ch_model.specs.WorldHappenings.{Answered, after_entry, cell_told, cell_hears, end_hears, joins, refuses, comes_at, comes, loses, times_out, with_cell, mark_of}
+use Rattle.ch_model.specs.WorldHappenings.{Answered, after_entry, cell_told, cell_hears, joins, refuses, comes_at, comes, loses, times_out, with_cell, mark_of}
 use Rattle.ch_model.specs.WorldLines.{command_as, node_hears, on_socket, can_join, can_come, can_refuse, can_cut, is_at_work, cuts, is_strangers, pokes, quits, other_line, line_done}
 use Rattle.ch_model.specs.WorldSockets.{end_of, is_socket_named, cell_of, with_end, with_socket, with_end_of, opened}
 use Rattle.ch_model.specs.WorldState.{Cell, WorldEnd, WorldSocket, World}

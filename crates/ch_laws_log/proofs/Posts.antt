@@ -5,7 +5,7 @@ use Rattle.ch_base.specs.declared.address.Address.{Address}
 use Rattle.ch_base.specs.declared.event.Event.TheVariants as events
 use Rattle.ch_base.specs.declared.memory.Stop.{Stop}
 use Rattle.ch_base.specs.declared.memory.Stop.TheVariants as stops
-use Rattle.ch_wire.specs.Spelling.{answer_spelling, frame_spelling, request_spelling}
+use Rattle.ch_wire.specs.Spelling.{answer_spelling, request_spelling}
 use Rattle.ch_wire.specs.declared.answer.Answer.{Answer}
 use Rattle.ch_wire.specs.declared.answer.Answer.TheVariants as answers
 use Rattle.ch_wire.specs.declared.frame.Frame.{Frame}
@@ -38,7 +38,7 @@ use Rattle.ch_model.specs.Host.{front_of, first_ready, on_socket, joins, keeps, 
 use Rattle.ch_model.specs.HostCalls.{◌>>=◌, stepped, open_endpoint, shuts_links, closes_endpoint, host_close_endpoint, host_timer_runs}
 use Rattle.ch_model.specs.HostItems.{most_arrived, posts, gone_from, is_gone, refusal_of, asks_link, reads_request, heard_answer, arrived_at, with_arrival, next_arrival, arrives, closes, receives, reads_frame, reads_on, reads_other, reads}
 use Rattle.ch_model.specs.HostLinks.{most_dials, dialed, dials_for, accepts_on, asked_on, wanted_on, fails_with, says_closed, raised, acknowledged, does_act, hears}
-use Rattle.ch_model.specs.HostState.{Endpoint, Link, Socket, HostState}
+use Rattle.ch_model.specs.HostState.{Link, Socket, HostState}
 use Rattle.ch_model.specs.HostSteps.{Stepped, still, does, after_steps, ◌then◌, own_address, is_endpoint, is_socket, link_with, with_link, with_socket}
 use Rattle.ch_model.specs.HostWrites.{writes, leaves, answers_and_leaves, flushes_to, frame_step, forgotten, leaves_off}
 use Rattle.ch_model.specs.Stages.{Stage, Open, is_pending, is_open}

@@ -1,5 +1,5 @@
 -- What is unread and how each end stands after some lines is what their log tells.
-use Rattle.std.proofs.Common.{◌≡◌, ℕ, Bool, true, false, List, [], ◌∷◌, ◌++◌, Ok, Err, refl, sym, ap, ◌∙◌, subst}
+use Rattle.std.proofs.Common.{◌≡◌, ℕ, false, List, [], ◌∷◌, Ok, refl, sym, ap, ◌∙◌, subst}
 use Rattle.std.specs.List.{list_any}
 use Rattle.std.specs.Prelude.{find, is_some, Option, Some, None}
 use Rattle.ch_model.specs.declared.entry.Entry.{Entry}

@@ -26,7 +26,7 @@ ghost use Rattle.ch_model.specs.AnswersEntries.{refuses};
 ghost use Rattle.ch_model.specs.Cell.{cell_step};
 ghost use Rattle.ch_model.specs.HasAnswers.{marks_all, is_of_done, has_own_first};
 ghost use Rattle.ch_model.specs.Host.{host_on, host_next};
-ghost use Rattle.ch_model.specs.HostCalls.{host_connect, host_send, host_close, host_close_endpoint};
+ghost use Rattle.ch_model.specs.HostCalls.{host_new, host_connect, host_send, host_close, host_close_endpoint};
 ghost use Rattle.ch_model.specs.HostState.{HostState};
 ghost use Rattle.ch_model.specs.Logs.{each, each_between, some_and};
 ghost use Rattle.ch_model.specs.Sockets.{is_opening};
@@ -98,8 +98,9 @@ pub fn tests_as_told()
 /// new sockets with even numbers, and a sound host stays so. So it is of what happens to a
 /// socket or a timer, but for an end that opens, of each item that is handled, and of all that an endpoint asks. An end
 /// that was pending and is joined is open. A host is sound whose sockets' numbers differ, whose next dials' numbers are free, and whose pending
-/// sockets are each of a link.
+/// sockets are each of a link; a new one is.
 pub fn hosts_tell_ends()
+    ensures fresh { (host : List ℕ) (port : ℕ) (circle : List (List ℕ)) → IsSound (host_new host port circle) }
     ensures on { (host : HostState) (event : SocketEvent) → opens_nothing event ≡ true → AllTold host (host_on host event) }
     ensures joined { (host after : HostState) (sock : ℕ) (told : List Step) → IsSound host → host_on host (sockets.Joined sock) ≡ Ok (told, after) → stage_at host sock ≡ Some Pending → stage_at after sock ≡ Some Open }
     ensures next { (host after : HostState) (told : List Step) → IsSound host → host_next host ≡ Ok (Some told, after) → Tells host told after }

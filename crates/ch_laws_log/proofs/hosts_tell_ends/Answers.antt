@@ -1,6 +1,9 @@
 use Rattle.ch_laws_log.proofs.HostItemsTold.{next_told, connected, sent, closed_conn, endpoint_closed}
-use Rattle.ch_laws_log.proofs.HostEventsTold.{event_told, joined_told}
+use Rattle.ch_laws_log.proofs.HostEventsTold.{event_told, joined_told, fresh_sound}
 use Rattle.ch_laws_log.proofs.hosts_tell_ends.Goals as goal
+
+pub returns-clause-fresh : goal.returns-clause-fresh
+returns-clause-fresh c = fresh_sound
 
 pub returns-clause-on : goal.returns-clause-on
 returns-clause-on c = event_told
