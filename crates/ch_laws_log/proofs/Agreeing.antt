@@ -1,12 +1,11 @@
 -- The world's sockets agree with the log: each single thing that happens keeps it so.
-use Rattle.std.proofs.Common.{◌≡◌, ℕ, zero, suc, ◌+◌, ◌<◌, Bool, true, false, cond, not, ◌&&◌, ◌||◌, List, [], ◌∷◌, ◌++◌, length, take, drop, Ok, Err, refl, sym, ap, ◌∙◌, subst, append_assoc, length-append, arith}
+use Rattle.std.proofs.Common.{◌≡◌, ℕ, zero, suc, ◌+◌, ◌<◌, Bool, true, false, cond, not, ◌||◌, List, [], ◌∷◌, ◌++◌, length, take, drop, refl, sym, ap, ◌∙◌, subst, append_assoc, length-append, arith}
 use Rattle.std.proofs.lemmas.List.{append-nil, take-append-drop}
 use Rattle.std.proofs.lemmas.List.Quantifiers.{position-Some}
-use Rattle.std.specs.Prelude.{find, is_some, position, slice_get, slice_set, count_by, Option, Some, None}
+use Rattle.std.specs.Prelude.{find, is_some, position, slice_get, slice_set, Option, Some, None}
 use Rattle.ch_base.specs.declared.address.Address.{Address}
 use Rattle.ch_model.specs.declared.entry.Entry.{Entry}
 use Rattle.ch_model.specs.declared.entry.Entry.TheVariants as entries
-use Rattle.ch_model.specs.declared.entry.Verdict.{Verdict}
 use Rattle.ch_model.specs.declared.line.Line.{Line}
 use Rattle.ch_model.specs.declared.name.End.{End}
 use Rattle.ch_model.specs.declared.name.End.TheVariants.{O, T}
@@ -19,17 +18,17 @@ use Rattle.ch_model.specs.declared.step.Step.TheVariants as steps
 use Rattle.ch_model.specs.Declarations.{has_host}
 use Rattle.ch_model.specs.HostSteps.{own_address}
 use Rattle.ch_model.specs.Naming.{Names, called, address_as}
-use Rattle.ch_model.specs.Same.{same_socket, same_end, across}
-use Rattle.ch_model.specs.Stages.{Stage, Pending, Open, Ended, is_pending, is_open, is_ended}
+use Rattle.ch_model.specs.Same.{same_socket}
+use Rattle.ch_model.specs.Stages.{Stage, Pending, Open, Ended, is_pending, is_ended}
 use Rattle.ch_model.specs.WorldHappenings.{with_cell}
 use Rattle.ch_model.specs.WorldLines.{stranger_host}
-use Rattle.ch_model.specs.WorldSockets.{end_of, other, with_end, ended, cut, opened, arrives, item_arrives, end_of_nobody, is_socket_named, store_in, with_socket, with_end_of, find_end, next_name, is_host_of, cell_of, target_end, new_socket}
+use Rattle.ch_model.specs.WorldSockets.{end_of, other, with_end, ended, cut, opened, arrives, item_arrives, end_of_nobody, is_socket_named, with_socket, with_end_of, find_end, next_name, is_host_of, cell_of, target_end, new_socket}
 use Rattle.ch_model.specs.WorldState.{Cell, WorldEnd, WorldSocket, World}
-use Rattle.ch_model.specs.WorldSteps.{note_entry, place_after, on_end, dials, first_place, later_places, item_is_read, reads_item, end_closes, stepped}
-use Rattle.ch_laws_log.specs.Seen.{SeenEnd, Seen, unseen, is_of, grown, raised, sees, seen_in, end_seen, stage_seen}
-use Rattle.ch_laws_log.proofs.Kept.{IsIn, stranger_socket, Keeps}
+use Rattle.ch_model.specs.WorldSteps.{note_entry, place_after, on_end, later_places, item_is_read, reads_item, end_closes, stepped}
+use Rattle.ch_laws_log.proofs.Views.{SeenEnd, Seen, unseen, is_of, grown, raised, sees, seen_in, stage_seen}
+use Rattle.ch_laws_log.proofs.Kept.{IsIn, Keeps}
 use Rattle.ch_laws_log.proofs.Seen.{unmoved, moved, grown_is, raised_is, HasFront, UnreadIs, EndFits}
-use Rattle.ch_laws_log.proofs.Stored.{same_is, self_same, find_name, find_stored, IsHeld, found_end, Distinct, stored_distinct, Numbered, next_is_new, numbered_kept, numbered_new}
+use Rattle.ch_laws_log.proofs.Stored.{same_is, self_same, find_name, find_stored, found_end, Distinct, stored_distinct, Numbered, next_is_new, numbered_kept, numbered_new}
 
 -- ---- a socket
 
@@ -60,7 +59,7 @@ quiet journal log world x none g = record {
   agrees = λ s. subst (λ (v : Seen). At (has_host journal s.to) v (find (is_socket_named s) world.sockets)) (sym (unmoved log s x (none s))) (g.agrees s);
 }
 
-length_set : {X : Type 0} (xs : List X) (k : ℕ) (y : X) → length (slice_set xs k y) ≡ length xs
+pub length_set : {X : Type 0} (xs : List X) (k : ℕ) (y : X) → length (slice_set xs k y) ≡ length xs
 length_set [] k y = refl
 length_set (x ∷ xs) zero y = refl
 length_set (x ∷ xs) (suc k) y = ap suc (length_set xs k y)
@@ -101,18 +100,18 @@ changed journal log more world n old new is name cell others own g = record {
   by_name s false h = subst (λ (v : Seen). At (has_host journal s.to) v (find (is_socket_named s) world.sockets)) (sym (others s (subst (λ (m : SockName). same_socket m s ≡ false) name h))) (g.agrees s)
 
 -- what is changed of an end leaves it in its cell
-abbrev KeepsCell : (WorldEnd → WorldEnd) → Type 0
+abbrev pub KeepsCell : (WorldEnd → WorldEnd) → Type 0
 KeepsCell f = (end : WorldEnd) → (f end).cell ≡ end.cell
 
-cell_of_end : (e : End) (f : WorldEnd → WorldEnd) (old : WorldSocket) → KeepsCell f → (with_end e (f (end_of e old)) old).t.cell ≡ old.t.cell
+pub cell_of_end : (e : End) (f : WorldEnd → WorldEnd) (old : WorldSocket) → KeepsCell f → (with_end e (f (end_of e old)) old).t.cell ≡ old.t.cell
 cell_of_end O f old k = refl
 cell_of_end T f old k = k old.t
 
-name_of_end : (e : End) (end : WorldEnd) (old : WorldSocket) → (with_end e end old).name ≡ old.name
+pub name_of_end : (e : End) (end : WorldEnd) (old : WorldSocket) → (with_end e end old).name ≡ old.name
 name_of_end O end old = refl
 name_of_end T end old = refl
 
-with_end_is : (n : SockName) (e : End) (f : WorldEnd → WorldEnd) (world : World) (old : WorldSocket) → find (is_socket_named n) world.sockets ≡ Some old → with_end_of n e f world ≡ with_socket (with_end e (f (end_of e old)) old) world
+pub with_end_is : (n : SockName) (e : End) (f : WorldEnd → WorldEnd) (world : World) (old : WorldSocket) → find (is_socket_named n) world.sockets ≡ Some old → with_end_of n e f world ≡ with_socket (with_end e (f (end_of e old)) old) world
 with_end_is n e f world old is = ap (λ (o : Option WorldSocket). elim o as (λ o. World) [
   | None ↦ world
   | Some socket ↦ with_socket (with_end e (f (end_of e socket)) socket) world
@@ -365,13 +364,13 @@ read_kept journal log at world old is g = still journal log (item_is_read at (fi
       h : Good journal log (with_end_of at.0 at.1 (λ end. record end { places = later_places end.places }) world)
       h = end_changed_silently journal log world at.0 at.1 (λ end. record end { places = later_places end.places }) old is (λ end. refl) (read_fits at.1 old) g
 
-arrived_in_cell : (bytes : List ℕ) (said : Option Place) (end : WorldEnd) → (item_arrives bytes said end).cell ≡ end.cell
+pub arrived_in_cell : (bytes : List ℕ) (said : Option Place) (end : WorldEnd) → (item_arrives bytes said end).cell ≡ end.cell
 arrived_in_cell bytes said end = by_gone (is_ended end.stage || end.is_cut) where
   by_gone : (b : Bool) → (cond b end (record end { unread = end.unread ++ bytes; places = end.places ++ said ∷ [] })).cell ≡ end.cell
   by_gone true = refl
   by_gone false = refl
 
-poked_in_cell : (bytes : List ℕ) (end : WorldEnd) → (arrives bytes end).cell ≡ end.cell
+pub poked_in_cell : (bytes : List ℕ) (end : WorldEnd) → (arrives bytes end).cell ≡ end.cell
 poked_in_cell bytes end = by_gone (is_ended end.stage || end.is_cut) where
   by_gone : (b : Bool) → (cond b end (record end { unread = end.unread ++ bytes })).cell ≡ end.cell
   by_gone true = refl
@@ -395,7 +394,7 @@ step_kept journal log world place cell (steps.Post end event) g = still journal 
 
 -- ---- all of it
 
-some_within : {X : Type 0} (xs : List X) (i : ℕ) → i < length xs → is_some (slice_get xs i) ≡ true
+pub some_within : {X : Type 0} (xs : List X) (i : ℕ) → i < length xs → is_some (slice_get xs i) ≡ true
 some_within [] i h = absurd (never i h) where
   never : (n : ℕ) → n < 0 → ⊥
   never n h = omega arith
@@ -410,8 +409,13 @@ nowhere journal log world socket place is at none g =
     let gone : is_some (slice_get world.cells place) ≡ false = ap is_some none in
     absurd cc
 
-pub keeps_good : (journal : List Line) → Keeps (Good journal)
+-- refusals and feedings of any kind keep it
+abbrev pub AnyCount : ℕ → List ℕ → Type 0
+AnyCount count left = Unit {0}
+
+pub keeps_good : (journal : List Line) → Keeps (Unit {0}) AnyCount (Good journal)
 keeps_good journal = record {
+  whole = λ left. tt;
   distinct = λ log world g. g.apart;
   cell = cell_kept journal;
   mark = λ log world number answer g. quiet journal log world (entries.Line number answer) (λ s. refl) g;
@@ -419,10 +423,10 @@ keeps_good journal = record {
   note = note_kept journal;
   step = step_kept journal;
   joined = λ log world socket is p g. end_changed journal log world (entries.Joined socket.name) socket.name O opened socket is (λ end. refl) (λ s. refl) (joined_fits socket.name socket p) g;
-  refused = λ log world socket is p g. noticed journal log world (entries.Refused socket.name) socket.name socket is (λ s. refl) (refused_fits socket.name socket) g;
+  refused = λ r log world socket is p g. noticed journal log world (entries.Refused socket.name) socket.name socket is (λ s. refl) (refused_fits socket.name socket) g;
   came = λ log world socket number is p g. end_changed journal log world (entries.Came socket.name) socket.name T (λ end. record (opened end) { number = Some number }) socket is (λ end. refl) (λ s. refl) (came_fits socket.name socket number p) g;
   came_nowhere = λ log world socket place is at none g. absurd (nowhere journal log world socket place is at none g);
-  fed = λ log world socket which count is stands g. end_changed journal log world (entries.Fed socket.name which (length (take count (end_of which socket).unread))) socket.name which (λ end. record end { unread = drop count end.unread }) socket is (λ end. refl) (λ s. refl) (fed_fits socket.name which count socket) g;
+  fed = λ log world socket which count is stands input w g. end_changed journal log world (entries.Fed socket.name which (length (take count (end_of which socket).unread))) socket.name which (λ end. record end { unread = drop count end.unread }) socket is (λ end. refl) (λ s. refl) (fed_fits socket.name which count socket) g;
   lost = λ log world socket which g. quiet journal log world (entries.Lost socket.name which) (λ s. refl) g;
   timed = λ log world node peer g. quiet journal log world (entries.Timed node peer) (λ s. refl) g;
   was_cut = λ log world socket which is g. end_changed journal log world (entries.Cut socket.name which) socket.name which cut socket is (λ end. refl) (λ s. refl) (cut_fits socket.name which socket) g;

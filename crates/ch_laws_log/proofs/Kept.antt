@@ -1,9 +1,8 @@
 -- What each single thing that happens keeps of a log and its world is kept by all lines, settling included.
-use Rattle.std.proofs.Common.{◌≡◌, ℕ, zero, suc, ◌+◌, ◌*◌, Bool, true, false, cond, not, ◌&&◌, List, [], ◌∷◌, ◌++◌, length, take, drop, Ok, Err, refl, sym, ap, ◌∙◌, subst, append_assoc}
+use Rattle.std.proofs.Common.{◌≡◌, ℕ, zero, suc, ◌+◌, ◌*◌, Bool, true, false, cond, ◌&&◌, List, [], ◌∷◌, ◌++◌, length, take, drop, Ok, Err, refl, sym, ap, subst, append_assoc}
 use Rattle.std.proofs.lemmas.Bool.{and_parts}
 use Rattle.std.proofs.lemmas.List.{append-nil}
-use Rattle.std.specs.Prelude.{find, is_some, slice_get, Result, Option, Some, None}
-use Rattle.ch_base.specs.declared.memory.Stop.{Stop}
+use Rattle.std.specs.Prelude.{find, is_some, slice_get, Option, Some, None}
 use Rattle.ch_static.specs.declared.command.Command.{Command}
 use Rattle.ch_model.specs.declared.entry.Entry.{Entry}
 use Rattle.ch_model.specs.declared.entry.Entry.TheVariants as entries
@@ -31,10 +30,10 @@ use Rattle.ch_model.specs.Stages.{Stage, Pending, Open, Ended, is_pending, is_op
 use Rattle.ch_model.specs.Timers.{timer_runs_for, all_links}
 use Rattle.ch_model.specs.World.{◌>>=◌, event_step, world_step, line_answered, line_settled, log_from}
 use Rattle.ch_model.specs.WorldHappenings.{Answered, after_entry, cell_told, cell_hears, end_hears, with_cell, joins, refuses, comes_at, comes, hands, feeds, loses, times_out, mark_of}
-use Rattle.ch_model.specs.WorldLines.{command_as, node_hears, on_socket, can_join, can_come, can_refuse, can_feed, can_cut, is_at_work, cuts, is_strangers, knocks, pokes, quits, stranger_host, other_line, line_done}
-use Rattle.ch_model.specs.WorldSockets.{end_of, end_of_nobody, ended, cut, opened, arrives, is_of_host, has_input, find_end, is_socket_named, cell_of, with_end_of, with_socket, new_socket}
+use Rattle.ch_model.specs.WorldLines.{command_as, node_hears, on_socket, can_join, can_come, can_refuse, can_feed, can_cut, is_at_work, cuts, is_strangers, pokes, quits, stranger_host, other_line, line_done}
+use Rattle.ch_model.specs.WorldSockets.{end_of, end_of_nobody, ended, cut, opened, arrives, is_of_host, has_input, is_socket_named, cell_of, with_end_of, with_socket, new_socket}
 use Rattle.ch_model.specs.WorldState.{Cell, WorldEnd, WorldSocket, World}
-use Rattle.ch_model.specs.WorldSteps.{note_entry, place_after, stepped, local_told, after_told, all_told}
+use Rattle.ch_model.specs.WorldSteps.{note_entry, place_after, stepped, local_told, all_told}
 use Rattle.ch_laws_log.proofs.Stored.{Distinct, self_same, find_name, found_before}
 
 -- the socket stands at its name in the world
@@ -44,8 +43,10 @@ IsIn socket world = find (is_socket_named socket.name) world.sockets ≡ Some so
 abbrev pub stranger_socket : List ℕ → List ℕ → World → WorldSocket
 stranger_socket stranger node world = new_socket world stranger node (stranger_host world stranger) (end_of_nobody None None Open) (address_as world.names node)
 
--- Each single thing keeps it: what is told at a cell, and what the network and strangers do to a socket.
-pub record Keeps (I : List Entry → World → Type 0) : Type 0 where
+-- Each single thing keeps it: what is told at a cell, and what the network and strangers do to a socket; a refusal
+-- where R holds, and a feeding of so many of the bytes that are unread where W holds, as it does of all that are.
+pub record Keeps (R : Type 0) (W : ℕ → List ℕ → Type 0) (I : List Entry → World → Type 0) : Type 0 where
+  pub whole : (left : List ℕ) → W (length left) left
   pub distinct : (log : List Entry) (world : World) → I log world → Distinct world.sockets
   pub cell : (log : List Entry) (world : World) (place : ℕ) (cell : Cell × ℕ) → I log world → I log (with_cell place cell world)
   pub mark : (log : List Entry) (world : World) (number : ℕ) (answer : Verdict) → I log world → I (log ++ entries.Line number answer ∷ []) world
@@ -53,10 +54,10 @@ pub record Keeps (I : List Entry → World → Type 0) : Type 0 where
   pub note : (log : List Entry) (world : World) (note : Note) → I log world → I (log ++ note_entry world.names world.last note ∷ []) (record world { last = place_after world.last note })
   pub step : (log : List Entry) (world : World) (place : ℕ) (cell : Cell) (step : Step) → I log world → I (log ++ (stepped place cell step world).0) (stepped place cell step world).1
   pub joined : (log : List Entry) (world : World) (socket : WorldSocket) → IsIn socket world → is_pending socket.o.stage ≡ true → I log world → I (log ++ entries.Joined socket.name ∷ []) (with_end_of socket.name O opened world)
-  pub refused : (log : List Entry) (world : World) (socket : WorldSocket) → IsIn socket world → is_pending socket.o.stage ≡ true → I log world → I (log ++ entries.Refused socket.name ∷ []) world
+  pub refused : R → (log : List Entry) (world : World) (socket : WorldSocket) → IsIn socket world → is_pending socket.o.stage ≡ true → I log world → I (log ++ entries.Refused socket.name ∷ []) world
   pub came : (log : List Entry) (world : World) (socket : WorldSocket) (number : ℕ) → IsIn socket world → is_pending socket.t.stage ≡ true → I log world → I (log ++ entries.Came socket.name ∷ []) (with_end_of socket.name T (λ end. record (opened end) { number = Some number }) world)
   pub came_nowhere : (log : List Entry) (world : World) (socket : WorldSocket) (place : ℕ) → IsIn socket world → socket.t.cell ≡ Some place → slice_get world.cells place ≡ None → I log world → I (log ++ entries.Came socket.name ∷ []) world
-  pub fed : (log : List Entry) (world : World) (socket : WorldSocket) (which : End) (count : ℕ) → IsIn socket world → is_open (end_of which socket).stage ≡ true → I log world
+  pub fed : (log : List Entry) (world : World) (socket : WorldSocket) (which : End) (count : ℕ) → IsIn socket world → is_open (end_of which socket).stage ≡ true → has_input which socket ≡ true → W count (end_of which socket).unread → I log world
       → I (log ++ entries.Fed socket.name which (length (take count (end_of which socket).unread)) ∷ []) (with_end_of socket.name which (λ end. record end { unread = drop count end.unread }) world)
   pub lost : (log : List Entry) (world : World) (socket : WorldSocket) (which : End) → I log world → I (log ++ entries.Lost socket.name which ∷ []) world
   pub timed : (log : List Entry) (world : World) (node peer : List ℕ) → I log world → I (log ++ entries.Timed node peer ∷ []) world
@@ -64,6 +65,17 @@ pub record Keeps (I : List Entry → World → Type 0) : Type 0 where
   pub knocked : (log : List Entry) (world : World) (stranger node : List ℕ) → I log world → I (log ++ entries.Knocked (stranger_socket stranger node world).name ∷ []) (with_socket (stranger_socket stranger node world) world)
   pub poked : (log : List Entry) (world : World) (socket : WorldSocket) (bytes : List ℕ) → IsIn socket world → I log world → I (log ++ entries.Poked socket.name bytes ∷ []) (with_end_of socket.name T (arrives bytes) world)
   pub quitted : (log : List Entry) (world : World) (socket : WorldSocket) → IsIn socket world → I log world → I (log ++ entries.Quitted socket.name ∷ []) (with_end_of socket.name O ended world)
+
+-- the line refuses only where R holds, and feeds only as W has it
+abbrev pub Allowed : Type 0 → (ℕ → List ℕ → Type 0) → What → Type 0
+Allowed R W (lines.Refuse sock) = R
+Allowed R W lines.Settle = R
+Allowed R W (lines.Feed sock end count) = (left : List ℕ) → W count left
+Allowed R W what = Unit {0}
+
+abbrev pub AllAllowed : Type 0 → (ℕ → List ℕ → Type 0) → List Line → Type 0
+AllAllowed R W [] = Unit {0}
+AllAllowed R W (line ∷ rest) = Allowed R W line.what × AllAllowed R W rest
 
 -- it holds after an answer, after what happened, after settling
 abbrev pub Led : (List Entry → World → Type 0) → List Entry → Answered → Type 0
@@ -86,20 +98,20 @@ onward I log one two world i = subst (λ (l : List Entry). I l world) (append_as
 
 -- ---- what followed at a cell
 
-one_told : (I : List Entry → World → Type 0) → Keeps I → (log : List Entry) (place : ℕ) (cell : Cell) (entry : LocalEntry) (world : World) → I log world → I (log ++ (local_told place cell entry world).0) (local_told place cell entry world).1
+one_told : {R : Type 0} {W : ℕ → List ℕ → Type 0} (I : List Entry → World → Type 0) → Keeps R W I → (log : List Entry) (place : ℕ) (cell : Cell) (entry : LocalEntry) (world : World) → I log world → I (log ++ (local_told place cell entry world).0) (local_told place cell entry world).1
 one_told I k log place cell (local.Step step) world i = k.step log world place cell step i
 one_told I k log place cell (local.Note note) world i = k.note log world note i
 
-told : (I : List Entry → World → Type 0) → Keeps I → (log : List Entry) (place : ℕ) (cell : Cell) (all : List LocalEntry) (world : World) → I log world → I (log ++ (all_told place cell all world).0) (all_told place cell all world).1
+told : {R : Type 0} {W : ℕ → List ℕ → Type 0} (I : List Entry → World → Type 0) → Keeps R W I → (log : List Entry) (place : ℕ) (cell : Cell) (all : List LocalEntry) (world : World) → I log world → I (log ++ (all_told place cell all world).0) (all_told place cell all world).1
 told I k log place cell [] world i = at_rest I log world i
 told I k log place cell (entry ∷ rest) world i = onward I log (local_told place cell entry world).0 (all_told place cell rest (local_told place cell entry world).1).0 (all_told place cell rest (local_told place cell entry world).1).1
     (told I k (log ++ (local_told place cell entry world).0) place cell rest (local_told place cell entry world).1 (one_told I k log place cell entry world i))
 
-celled : (I : List Entry → World → Type 0) → Keeps I → (log : List Entry) (place : ℕ) (cell : Cell × ℕ) (world : World) (done : Celled) → I log world → Led I log (cell_told place cell world done)
+celled : {R : Type 0} {W : ℕ → List ℕ → Type 0} (I : List Entry → World → Type 0) → Keeps R W I → (log : List Entry) (place : ℕ) (cell : Cell × ℕ) (world : World) (done : Celled) → I log world → Led I log (cell_told place cell world done)
 celled I k log place cell world (Err stop) i = tt
 celled I k log place cell world (Ok done) i = told I k log place done.1 done.0.1 (with_cell place (done.1, cell.1) world) (k.cell log world place (done.1, cell.1) i)
 
-hearing : (I : List Entry → World → Type 0) → Keeps I → (log : List Entry) (place : ℕ) (event : LocalEvent) (world : World) → I log world → Led I log (cell_hears place event world)
+hearing : {R : Type 0} {W : ℕ → List ℕ → Type 0} (I : List Entry → World → Type 0) → Keeps R W I → (log : List Entry) (place : ℕ) (event : LocalEvent) (world : World) → I log world → Led I log (cell_hears place event world)
 hearing I k log place event world i = by_cell (slice_get world.cells place) where
   by_cell : (o : Option (Cell × ℕ)) → Led I log (elim o as (λ o. Answered) [
     | None ↦ Ok ((verdicts.Nothing, []), world)
@@ -108,7 +120,7 @@ hearing I k log place event world i = by_cell (slice_get world.cells place) wher
   by_cell None = at_rest I log world i
   by_cell (Some cell) = celled I k log place cell world (cell_step cell.0 event) i
 
-end_hearing : (I : List Entry → World → Type 0) → Keeps I → (log : List Entry) (end : WorldEnd) (event : ℕ → SocketEvent) (world : World) → I log world → Led I log (end_hears end event world)
+end_hearing : {R : Type 0} {W : ℕ → List ℕ → Type 0} (I : List Entry → World → Type 0) → Keeps R W I → (log : List Entry) (end : WorldEnd) (event : ℕ → SocketEvent) (world : World) → I log world → Led I log (end_hears end event world)
 end_hearing I k log end event world i = by_cell end.cell end.number where
   by_cell : (o n : Option ℕ) → Led I log (elim o as (λ o. Answered) [
     | None ↦ Ok ((verdicts.Nothing, []), world)
@@ -127,15 +139,15 @@ entry_first : (I : List Entry → World → Type 0) (log : List Entry) (entry : 
 entry_first I log entry (Ok done) l = onward I log (entry ∷ []) done.0.1 done.1 l
 entry_first I log entry (Err stop) l = tt
 
-joining : (I : List Entry → World → Type 0) → Keeps I → (log : List Entry) (socket : WorldSocket) (world : World) → IsIn socket world → is_pending socket.o.stage ≡ true → I log world → Led I log (joins socket world)
+joining : {R : Type 0} {W : ℕ → List ℕ → Type 0} (I : List Entry → World → Type 0) → Keeps R W I → (log : List Entry) (socket : WorldSocket) (world : World) → IsIn socket world → is_pending socket.o.stage ≡ true → I log world → Led I log (joins socket world)
 joining I k log socket world is pending i = entry_first I log (entries.Joined socket.name) (end_hears socket.o (λ sock. sockets.Joined sock) (with_end_of socket.name O opened world))
     (end_hearing I k (log ++ entries.Joined socket.name ∷ []) socket.o (λ sock. sockets.Joined sock) (with_end_of socket.name O opened world) (k.joined log world socket is pending i))
 
-refusing : (I : List Entry → World → Type 0) → Keeps I → (log : List Entry) (socket : WorldSocket) (world : World) → IsIn socket world → is_pending socket.o.stage ≡ true → I log world → Led I log (refuses socket world)
-refusing I k log socket world is pending i = entry_first I log (entries.Refused socket.name) (end_hears socket.o (λ sock. sockets.Refused sock) world)
-    (end_hearing I k (log ++ entries.Refused socket.name ∷ []) socket.o (λ sock. sockets.Refused sock) world (k.refused log world socket is pending i))
+refusing : {R : Type 0} {W : ℕ → List ℕ → Type 0} (I : List Entry → World → Type 0) → Keeps R W I → R → (log : List Entry) (socket : WorldSocket) (world : World) → IsIn socket world → is_pending socket.o.stage ≡ true → I log world → Led I log (refuses socket world)
+refusing I k r log socket world is pending i = entry_first I log (entries.Refused socket.name) (end_hears socket.o (λ sock. sockets.Refused sock) world)
+    (end_hearing I k (log ++ entries.Refused socket.name ∷ []) socket.o (λ sock. sockets.Refused sock) world (k.refused r log world socket is pending i))
 
-coming : (I : List Entry → World → Type 0) → Keeps I → (log : List Entry) (socket : WorldSocket) (world : World) → IsIn socket world → is_pending socket.t.stage ≡ true → I log world → Led I log (comes socket world)
+coming : {R : Type 0} {W : ℕ → List ℕ → Type 0} (I : List Entry → World → Type 0) → Keeps R W I → (log : List Entry) (socket : WorldSocket) (world : World) → IsIn socket world → is_pending socket.t.stage ≡ true → I log world → Led I log (comes socket world)
 coming I k log socket world is pending i = by_place socket.t.cell refl where
   came_there : ℕ → Cell × ℕ → World
   came_there place cell = with_end_of socket.name T (λ end. record (opened end) { number = Some (2 * cell.1 + 1) }) (with_cell place (cell.0, cell.1 + 1) world)
@@ -155,24 +167,24 @@ coming I k log socket world is pending i = by_place socket.t.cell refl where
   by_place None e = at_rest I log world i
   by_place (Some place) e = entry_first I log (entries.Came socket.name) (comes_at place socket world) (by_cell place e (slice_get world.cells place) refl)
 
-handing : (I : List Entry → World → Type 0) → Keeps I → (log : List Entry) (bytes : List ℕ) (end : WorldEnd) (world : World) → I log world → Led I log (hands bytes end world)
+handing : {R : Type 0} {W : ℕ → List ℕ → Type 0} (I : List Entry → World → Type 0) → Keeps R W I → (log : List Entry) (bytes : List ℕ) (end : WorldEnd) (world : World) → I log world → Led I log (hands bytes end world)
 handing I k log [] end world i = end_hearing I k log end (λ sock. sockets.Ended sock) world i
 handing I k log (b ∷ bytes) end world i = end_hearing I k log end (λ sock. sockets.Fed sock (b ∷ bytes)) world i
 
-feeding : (I : List Entry → World → Type 0) → Keeps I → (log : List Entry) (which : End) (count : ℕ) (socket : WorldSocket) (world : World) → IsIn socket world → is_open (end_of which socket).stage ≡ true → I log world → Led I log (feeds which count socket world)
-feeding I k log which count socket world is stands i = entry_first I log (entries.Fed socket.name which (length bytes)) (hands bytes (end_of which socket) rest)
-    (handing I k (log ++ entries.Fed socket.name which (length bytes) ∷ []) bytes (end_of which socket) rest (k.fed log world socket which count is stands i)) where
+feeding : {R : Type 0} {W : ℕ → List ℕ → Type 0} (I : List Entry → World → Type 0) → Keeps R W I → (log : List Entry) (which : End) (count : ℕ) (socket : WorldSocket) (world : World) → IsIn socket world → is_open (end_of which socket).stage ≡ true → has_input which socket ≡ true → W count (end_of which socket).unread → I log world → Led I log (feeds which count socket world)
+feeding I k log which count socket world is stands input w i = entry_first I log (entries.Fed socket.name which (length bytes)) (hands bytes (end_of which socket) rest)
+    (handing I k (log ++ entries.Fed socket.name which (length bytes) ∷ []) bytes (end_of which socket) rest (k.fed log world socket which count is stands input w i)) where
       bytes : List ℕ
       bytes = take count (end_of which socket).unread
 
       rest : World
       rest = with_end_of socket.name which (λ end. record end { unread = drop count end.unread }) world
 
-losing : (I : List Entry → World → Type 0) → Keeps I → (log : List Entry) (which : End) (socket : WorldSocket) (world : World) → I log world → Led I log (loses which socket world)
+losing : {R : Type 0} {W : ℕ → List ℕ → Type 0} (I : List Entry → World → Type 0) → Keeps R W I → (log : List Entry) (which : End) (socket : WorldSocket) (world : World) → I log world → Led I log (loses which socket world)
 losing I k log which socket world i = entry_first I log (entries.Lost socket.name which) (end_hears (end_of which socket) (λ sock. sockets.Lost sock) world)
     (end_hearing I k (log ++ entries.Lost socket.name which ∷ []) (end_of which socket) (λ sock. sockets.Lost sock) world (k.lost log world socket which i))
 
-timing : (I : List Entry → World → Type 0) → Keeps I → (log : List Entry) (node peer : List ℕ) (world : World) → I log world → Led I log (times_out node peer world)
+timing : {R : Type 0} {W : ℕ → List ℕ → Type 0} (I : List Entry → World → Type 0) → Keeps R W I → (log : List Entry) (node peer : List ℕ) (world : World) → I log world → Led I log (times_out node peer world)
 timing I k log node peer world i = by_cell (cell_of world (named_as world.names node).address) where
   late_event : LocalEvent
   late_event = events.Socket (sockets.Late (named_as world.names node).address.id (named_as world.names peer).address)
@@ -233,15 +245,15 @@ next_is pass world d = by_due (due_in pass world) (in_rest pass pass.place world
   by_due None v = in_rest from_start 0 world.sockets d
   by_due (Some visit) v = v
 
-opening : (I : List Entry → World → Type 0) → Keeps I → (log : List Entry) (which : End) (socket : WorldSocket) (world : World) → IsIn socket world → is_pending (end_of which socket).stage ≡ true → I log world → Led I log (opens which socket world)
-opening I k log T socket world is pending i = coming I k log socket world is pending i
-opening I k log O socket world is pending i = by_host (is_some socket.t.cell) where
+opening : {R : Type 0} {W : ℕ → List ℕ → Type 0} (I : List Entry → World → Type 0) → Keeps R W I → R → (log : List Entry) (which : End) (socket : WorldSocket) (world : World) → IsIn socket world → is_pending (end_of which socket).stage ≡ true → I log world → Led I log (opens which socket world)
+opening I k r log T socket world is pending i = coming I k log socket world is pending i
+opening I k r log O socket world is pending i = by_host (is_some socket.t.cell) where
   by_host : (b : Bool) → Led I log (cond b (joins socket world) (refuses socket world))
   by_host true = joining I k log socket world is pending i
-  by_host false = refusing I k log socket world is pending i
+  by_host false = refusing I k r log socket world is pending i
 
-visiting : (I : List Entry → World → Type 0) → Keeps I → (log : List Entry) (which : End) (socket : WorldSocket) (world : World) → IsIn socket world → is_due which socket ≡ true → I log world → Led I log (visits which socket world)
-visiting I k log which socket world is due i = by_stage (end_of which socket).stage refl due where
+visiting : {R : Type 0} {W : ℕ → List ℕ → Type 0} (I : List Entry → World → Type 0) → Keeps R W I → R → (log : List Entry) (which : End) (socket : WorldSocket) (world : World) → IsIn socket world → is_due which socket ≡ true → I log world → Led I log (visits which socket world)
+visiting I k r log which socket world is due i = by_stage (end_of which socket).stage refl due where
   by_stage : (stage : Stage) → (end_of which socket).stage ≡ stage → (elim stage as (λ s. Bool) [
     | Pending ↦ is_of_host (end_of which socket)
     | Open ↦ (is_of_host (end_of which socket) && has_input which socket)
@@ -251,8 +263,8 @@ visiting I k log which socket world is due i = by_stage (end_of which socket).st
     | Open ↦ feeds which (length (end_of which socket).unread) socket world
     | Ended ↦ feeds which 0 socket world
   ])
-  by_stage Pending e h = opening I k log which socket world is (ap is_pending e) i
-  by_stage Open e h = feeding I k log which (length (end_of which socket).unread) socket world is (ap is_open e) i
+  by_stage Pending e h = opening I k r log which socket world is (ap is_pending e) i
+  by_stage Open e h = feeding I k log which (length (end_of which socket).unread) socket world is (ap is_open e) (and_parts (is_of_host (end_of which socket)) (has_input which socket) h).1 (k.whole (end_of which socket).unread) i
   by_stage Ended e h = absurd cc
 
 told_on : (I : List Entry → World → Type 0) (log : List Entry) (done : Answered) → Led I log done → LedOn I log (happened done)
@@ -267,13 +279,13 @@ then_on : (I : List Entry → World → Type 0) (log : List Entry) (one : Happen
 then_on I log (Ok done) f a more = after_on I log done.0 (f done.1) (more (log ++ done.0) done.1 a)
 then_on I log (Err stop) f a more = tt
 
-one_due : (I : List Entry → World → Type 0) → Keeps I → (log : List Entry) (link : List ℕ × List ℕ) (world : World) → I log world → LedOn I log (timer_due link world)
+one_due : {R : Type 0} {W : ℕ → List ℕ → Type 0} (I : List Entry → World → Type 0) → Keeps R W I → (log : List Entry) (link : List ℕ × List ℕ) (world : World) → I log world → LedOn I log (timer_due link world)
 one_due I k log link world i = by_test (timer_runs_for world link.0 link.1) where
   by_test : (b : Bool) → LedOn I log (cond b (happened (times_out link.0 link.1 world)) (Ok ([], world)))
   by_test true = told_on I log (times_out link.0 link.1 world) (timing I k log link.0 link.1 world i)
   by_test false = at_rest I log world i
 
-all_due : (I : List Entry → World → Type 0) → Keeps I → (links : List (List ℕ × List ℕ)) (log : List Entry) (world : World) → I log world → LedOn I log (timers_due links world)
+all_due : {R : Type 0} {W : ℕ → List ℕ → Type 0} (I : List Entry → World → Type 0) → Keeps R W I → (links : List (List ℕ × List ℕ)) (log : List Entry) (world : World) → I log world → LedOn I log (timers_due links world)
 all_due I k [] log world i = at_rest I log world i
 all_due I k (link ∷ rest) log world i = then_on I log (timer_due link world) (timers_due rest) (one_due I k log link world i) (all_due I k rest)
 
@@ -281,8 +293,8 @@ abbrev LedSeen : (List Entry → World → Type 0) → List Entry → Option (Ha
 LedSeen I log None = Unit {0}
 LedSeen I log (Some seen) = LedOn I log seen.0
 
-seeing : (I : List Entry → World → Type 0) → Keeps I → (log : List Entry) (pass : Pass) (world : World) → I log world → LedSeen I log (see pass world)
-seeing I k log pass world i = by_visit (next_visit pass world) (next_is pass world (k.distinct log world i)) where
+seeing : {R : Type 0} {W : ℕ → List ℕ → Type 0} (I : List Entry → World → Type 0) → Keeps R W I → R → (log : List Entry) (pass : Pass) (world : World) → I log world → LedSeen I log (see pass world)
+seeing I k r log pass world i = by_visit (next_visit pass world) (next_is pass world (k.distinct log world i)) where
   by_test : (b : Bool) → LedSeen I log (cond b (Some (timers_due (all_links world) world, from_start)) None)
   by_test true = all_due I k (all_links world) log world i
   by_test false = tt
@@ -292,21 +304,21 @@ seeing I k log pass world i = by_visit (next_visit pass world) (next_is pass wor
     | None ↦ cond (some_timer_runs world) (Some (timers_due (all_links world) world, from_start)) None
   ])
   by_visit None v = by_test (some_timer_runs world)
-  by_visit (Some visit) v = told_on I log (visits visit.which visit.socket world) (visiting I k log visit.which visit.socket world v.is v.due i)
+  by_visit (Some visit) v = told_on I log (visits visit.which visit.socket world) (visiting I k r log visit.which visit.socket world v.is v.due i)
 
 rest_on : (I : List Entry → World → Type 0) (log told : List Entry) (more : Option Happened) → LedAll I (log ++ told) more → LedAll I log (before_rest told more)
 rest_on I log told None l = tt
 rest_on I log told (Some more) l = after_on I log told more l
 
-settling : (I : List Entry → World → Type 0) → Keeps I → (fuel : ℕ) (log : List Entry) (pass : Pass) (world : World) → I log world → LedAll I log (settled_in fuel pass world)
-settling I k zero log pass world i = by_seen (see pass world) where
+settling : {R : Type 0} {W : ℕ → List ℕ → Type 0} (I : List Entry → World → Type 0) → Keeps R W I → R → (fuel : ℕ) (log : List Entry) (pass : Pass) (world : World) → I log world → LedAll I log (settled_in fuel pass world)
+settling I k r zero log pass world i = by_seen (see pass world) where
   by_seen : (o : Option (Happened × Pass)) → LedAll I log (elim o as (λ o. Option Happened) [
     | None ↦ Some (Ok ([], world))
     | Some done ↦ None
   ])
   by_seen None = at_rest I log world i
   by_seen (Some done) = tt
-settling I k (suc fuel) log pass world i = by_seen (see pass world) (seeing I k log pass world i) (settling I k fuel) where
+settling I k r (suc fuel) log pass world i = by_seen (see pass world) (seeing I k r log pass world i) (settling I k r fuel) where
   More : Type 0
   More = (l : List Entry) (p : Pass) (w : World) → I l w → LedAll I l (settled_in fuel p w)
 
@@ -329,7 +341,7 @@ settling I k (suc fuel) log pass world i = by_seen (see pass world) (seeing I k 
 
 -- ---- lines
 
-node_hearing : (I : List Entry → World → Type 0) → Keeps I → (log : List Entry) (name : List ℕ) (event : ℕ → LocalEvent) (world : World) → I log world → Led I log (node_hears name event world)
+node_hearing : {R : Type 0} {W : ℕ → List ℕ → Type 0} (I : List Entry → World → Type 0) → Keeps R W I → (log : List Entry) (name : List ℕ) (event : ℕ → LocalEvent) (world : World) → I log world → Led I log (node_hears name event world)
 node_hearing I k log name event world i = by_cell (cell_of world (address_as world.names name)) where
   by_cell : (o : Option ℕ) → Led I log (elim o as (λ o. Answered) [
     | None ↦ Ok ((verdicts.Nothing, []), world)
@@ -355,35 +367,35 @@ at_socket I log sock test f world i each = by_socket (find (is_socket_named sock
   by_socket None e = at_rest I log world i
   by_socket (Some s) e = by_test s (subst (λ (n : SockName). find (is_socket_named n) world.sockets ≡ Some s) (sym (find_name sock world.sockets s e)) e) (test s) refl
 
-late_on : (I : List Entry → World → Type 0) → Keeps I → (log : List Entry) (node peer : List ℕ) (world : World) (b : Bool) → I log world → Led I log (cond b (times_out node peer world) (Ok ((verdicts.Nothing, []), world)))
+late_on : {R : Type 0} {W : ℕ → List ℕ → Type 0} (I : List Entry → World → Type 0) → Keeps R W I → (log : List Entry) (node peer : List ℕ) (world : World) (b : Bool) → I log world → Led I log (cond b (times_out node peer world) (Ok ((verdicts.Nothing, []), world)))
 late_on I k log node peer world true i = timing I k log node peer world i
 late_on I k log node peer world false i = at_rest I log world i
 
 open_at_work : (which : End) (socket : WorldSocket) → is_at_work which socket ≡ true → is_open (end_of which socket).stage ≡ true
 open_at_work which socket e = (and_parts (is_open (end_of which socket).stage) (is_of_host (end_of which socket)) e).0
 
-other_led : (I : List Entry → World → Type 0) → Keeps I → (log : List Entry) (what : What) (world : World) → I log world → Led I log (other_line what world)
-other_led I k log (lines.Proc node) world i = node_hearing I k log node (λ end. events.Make end) world i
-other_led I k log (lines.Shut node) world i = node_hearing I k log node (λ end. events.Shut end) world i
-other_led I k log (lines.Join sock) world i = at_socket I log sock can_join joins world i (λ s is e. joining I k log s world is (and_parts (is_pending s.o.stage) (is_some s.t.cell) e).0 i)
-other_led I k log (lines.Come sock) world i = at_socket I log sock can_come comes world i (λ s is e. coming I k log s world is e i)
-other_led I k log (lines.Refuse sock) world i = at_socket I log sock can_refuse refuses world i (λ s is e. refusing I k log s world is e i)
-other_led I k log (lines.Feed sock end count) world i = at_socket I log sock (can_feed end) (feeds end count) world i (λ s is e. feeding I k log end count s world is (open_at_work end s (and_parts (is_at_work end s) (has_input end s) e).0) i)
-other_led I k log (lines.Cut sock end) world i = at_socket I log sock (can_cut end) (cuts end) world i (λ s is e. k.was_cut log world s end is i)
-other_led I k log (lines.Lose sock end) world i = at_socket I log sock (is_at_work end) (loses end) world i (λ s is e. losing I k log end s world i)
-other_led I k log (lines.Late node peer) world i = late_on I k log node peer world (timer_runs_for world node peer) i
-other_led I k log (lines.Knock stranger node) world i = k.knocked log world stranger node i
-other_led I k log (lines.Poke sock bytes) world i = at_socket I log sock is_strangers (pokes bytes) world i (λ s is e. k.poked log world s bytes is i)
-other_led I k log (lines.Quit sock) world i = at_socket I log sock is_strangers quits world i (λ s is e. k.quitted log world s is i)
-other_led I k log what world i = at_rest I log world i
+other_led : {R : Type 0} {W : ℕ → List ℕ → Type 0} (I : List Entry → World → Type 0) → Keeps R W I → (log : List Entry) (what : What) (world : World) → Allowed R W what → I log world → Led I log (other_line what world)
+other_led I k log (lines.Proc node) world a i = node_hearing I k log node (λ end. events.Make end) world i
+other_led I k log (lines.Shut node) world a i = node_hearing I k log node (λ end. events.Shut end) world i
+other_led I k log (lines.Join sock) world a i = at_socket I log sock can_join joins world i (λ s is e. joining I k log s world is (and_parts (is_pending s.o.stage) (is_some s.t.cell) e).0 i)
+other_led I k log (lines.Come sock) world a i = at_socket I log sock can_come comes world i (λ s is e. coming I k log s world is e i)
+other_led I k log (lines.Refuse sock) world a i = at_socket I log sock can_refuse refuses world i (λ s is e. refusing I k a log s world is e i)
+other_led I k log (lines.Feed sock end count) world a i = at_socket I log sock (can_feed end) (feeds end count) world i (λ s is e. feeding I k log end count s world is (open_at_work end s (and_parts (is_at_work end s) (has_input end s) e).0) (and_parts (is_at_work end s) (has_input end s) e).1 (a (end_of end s).unread) i)
+other_led I k log (lines.Cut sock end) world a i = at_socket I log sock (can_cut end) (cuts end) world i (λ s is e. k.was_cut log world s end is i)
+other_led I k log (lines.Lose sock end) world a i = at_socket I log sock (is_at_work end) (loses end) world i (λ s is e. losing I k log end s world i)
+other_led I k log (lines.Late node peer) world a i = late_on I k log node peer world (timer_runs_for world node peer) i
+other_led I k log (lines.Knock stranger node) world a i = k.knocked log world stranger node i
+other_led I k log (lines.Poke sock bytes) world a i = at_socket I log sock is_strangers (pokes bytes) world i (λ s is e. k.poked log world s bytes is i)
+other_led I k log (lines.Quit sock) world a i = at_socket I log sock is_strangers quits world i (λ s is e. k.quitted log world s is i)
+other_led I k log what world a i = at_rest I log world i
 
-done_led : (I : List Entry → World → Type 0) → Keeps I → (log : List Entry) (what : What) (world : World) → I log world → Led I log (line_done what world)
-done_led I k log what world i = by_command (command_as world.names what) where
+done_led : {R : Type 0} {W : ℕ → List ℕ → Type 0} (I : List Entry → World → Type 0) → Keeps R W I → (log : List Entry) (what : What) (world : World) → Allowed R W what → I log world → Led I log (line_done what world)
+done_led I k log what world a i = by_command (command_as world.names what) where
   by_command : (o : Option (ProcName × Command)) → Led I log (elim o as (λ o. Answered) [
     | None ↦ other_line what world
     | Some asked ↦ node_hears asked.0.node (λ end. events.Command end asked.0.counter asked.1) world
   ])
-  by_command None = other_led I k log what world i
+  by_command None = other_led I k log what world a i
   by_command (Some asked) = node_hearing I k log asked.0.node (λ end. events.Command end asked.0.counter asked.1) world i
 
 -- ---- a line's mark before what it did
@@ -392,28 +404,28 @@ marked : (I : List Entry → World → Type 0) (log : List Entry) (number : ℕ)
 marked I log number (Ok done) l = onward I log (entries.Line number done.0.0 ∷ []) done.0.1 done.1 (l done.0.0)
 marked I log number (Err stop) l = tt
 
-settled_last : (I : List Entry → World → Type 0) → Keeps I → (log : List Entry) (number : ℕ) (world : World) (done : Option Happened) → I (log ++ entries.Line number verdicts.Ok ∷ []) world → LedAll I (log ++ entries.Line number verdicts.Ok ∷ []) done → LedOn I log (line_settled number world done)
+settled_last : {R : Type 0} {W : ℕ → List ℕ → Type 0} (I : List Entry → World → Type 0) → Keeps R W I → (log : List Entry) (number : ℕ) (world : World) (done : Option Happened) → I (log ++ entries.Line number verdicts.Ok ∷ []) world → LedAll I (log ++ entries.Line number verdicts.Ok ∷ []) done → LedOn I log (line_settled number world done)
 settled_last I k log number world None i l = i
 settled_last I k log number world (Some (Ok done)) i l = onward I log (entries.Line number verdicts.Ok ∷ []) (done.0 ++ entries.Settled ∷ []) done.1
     (onward I (log ++ entries.Line number verdicts.Ok ∷ []) done.0 (entries.Settled ∷ []) done.1 (k.settled ((log ++ entries.Line number verdicts.Ok ∷ []) ++ done.0) done.1 l))
 settled_last I k log number world (Some (Err stop)) i l = tt
 
-event_led : (I : List Entry → World → Type 0) → Keeps I → (log : List Entry) (number : ℕ) (what : What) (world : World) → I log world → LedOn I log (event_step number what world)
-event_led I k log number lines.Settle world i = settled_last I k log number world (settles world) (k.mark log world number verdicts.Ok i)
-    (settling I k (weight_of world) (log ++ entries.Line number verdicts.Ok ∷ []) from_start world (k.mark log world number verdicts.Ok i))
-event_led I k log number what world i = marked I log number (line_done what world) (λ answer. done_led I k (log ++ entries.Line number answer ∷ []) what world (k.mark log world number answer i))
+event_led : {R : Type 0} {W : ℕ → List ℕ → Type 0} (I : List Entry → World → Type 0) → Keeps R W I → (log : List Entry) (number : ℕ) (what : What) (world : World) → Allowed R W what → I log world → LedOn I log (event_step number what world)
+event_led I k log number lines.Settle world a i = settled_last I k log number world (settles world) (k.mark log world number verdicts.Ok i)
+    (settling I k a (weight_of world) (log ++ entries.Line number verdicts.Ok ∷ []) from_start world (k.mark log world number verdicts.Ok i))
+event_led I k log number what world a i = marked I log number (line_done what world) (λ answer. done_led I k (log ++ entries.Line number answer ∷ []) what world a (k.mark log world number answer i))
 
-step_led : (I : List Entry → World → Type 0) → Keeps I → (log : List Entry) (world : World) (number : ℕ) (what : What) → I log world → LedOn I log (world_step world (record { number = number; what = what }))
-step_led I k log world number (lines.Node name address unique) i = at_rest I log world i
-step_led I k log world number (lines.Away name address unique) i = at_rest I log world i
-step_led I k log world number (lines.Label node label) i = at_rest I log world i
-step_led I k log world number (lines.Stranger name host) i = at_rest I log world i
-step_led I k log world number what i = event_led I k log number what world i
+pub step_led : {R : Type 0} {W : ℕ → List ℕ → Type 0} (I : List Entry → World → Type 0) → Keeps R W I → (log : List Entry) (world : World) (number : ℕ) (what : What) → Allowed R W what → I log world → LedOn I log (world_step world (record { number = number; what = what }))
+step_led I k log world number (lines.Node name address unique) a i = at_rest I log world i
+step_led I k log world number (lines.Away name address unique) a i = at_rest I log world i
+step_led I k log world number (lines.Label node label) a i = at_rest I log world i
+step_led I k log world number (lines.Stranger name host) a i = at_rest I log world i
+step_led I k log world number what a i = event_led I k log number what world a i
 
 -- what each thing keeps is kept by all lines
-pub all_led : (I : List Entry → World → Type 0) → Keeps I → (journal : List Line) (log : List Entry) (world : World) → I log world → LedOn I log (log_from world journal)
-all_led I k [] log world i = at_rest I log world i
-all_led I k (line ∷ rest) log world i = by_step (world_step world line) (step_led I k log world line.number line.what i) (all_led I k rest) where
+pub all_led : {R : Type 0} {W : ℕ → List ℕ → Type 0} (I : List Entry → World → Type 0) → Keeps R W I → (journal : List Line) (log : List Entry) (world : World) → AllAllowed R W journal → I log world → LedOn I log (log_from world journal)
+all_led I k [] log world a i = at_rest I log world i
+all_led I k (line ∷ rest) log world a i = by_step (world_step world line) (step_led I k log world line.number line.what a.0 i) (λ l w h. all_led I k rest l w a.1 h) where
   by_rest : (told : List Entry) (more : Happened) → LedOn I (log ++ told) more → LedOn I log (more >>= λ more. Ok (told ++ more.0, more.1))
   by_rest told (Ok more) l = onward I log told more.0 more.1 l
   by_rest told (Err stop) l = tt

@@ -2,8 +2,7 @@
 use Rattle.std.proofs.Common.{◌≡◌, ℕ, zero, suc, ◌+◌, ◌*◌, Bool, true, false, cond, List, [], ◌∷◌, ◌++◌, length, Ok, Err, refl, sym, ap, ◌∙◌, subst}
 use Rattle.std.proofs.lemmas.List.Elements.{filter_map-append}
 use Rattle.std.proofs.lemmas.Slice.Eq.{bytes_eq-Decides}
-use Rattle.std.specs.Prelude.{filter_map, find, take, drop, is_some, slice_get, Result, Option, Some, None, IsTrue}
-use Rattle.ch_base.specs.declared.memory.Stop.{Stop}
+use Rattle.std.specs.Prelude.{filter_map, find, take, is_some, slice_get, Option, Some, None, IsTrue}
 use Rattle.ch_static.specs.declared.command.Command.{Command}
 use Rattle.ch_model.specs.declared.entry.Entry.{Entry}
 use Rattle.ch_model.specs.declared.entry.Entry.TheVariants as entries
@@ -32,12 +31,12 @@ use Rattle.ch_model.specs.Settle.{Happened, Visit, Pass, happened, opens, visits
 use Rattle.ch_model.specs.Stages.{Stage, Pending, Open, Ended}
 use Rattle.ch_model.specs.Timers.{timer_runs_for, all_links}
 use Rattle.ch_model.specs.Cell.{Celled, cell_step}
-use Rattle.ch_model.specs.World.{◌>>=◌, is_declaration, event_step, world_step, world_new, line_answered, line_settled, log_from, log_of}
+use Rattle.ch_model.specs.World.{◌>>=◌, event_step, world_step, world_new, line_answered, line_settled, log_from, log_of}
 use Rattle.ch_model.specs.WorldHappenings.{Answered, after_entry, cell_told, cell_hears, end_hears, with_cell, joins, refuses, comes_at, comes, hands, feeds, loses, times_out, mark_of}
-use Rattle.ch_model.specs.WorldLines.{command_as, node_hears, on_socket, can_join, can_come, can_refuse, can_feed, can_cut, is_at_work, cuts, is_strangers, knocks, pokes, quits, other_line, line_done}
+use Rattle.ch_model.specs.WorldLines.{command_as, node_hears, on_socket, can_join, can_come, can_refuse, can_feed, can_cut, is_at_work, cuts, is_strangers, pokes, quits, other_line, line_done}
 use Rattle.ch_model.specs.WorldSockets.{end_of, other, find_end, is_socket_named, cell_of, opened, item_arrives, with_end_of}
 use Rattle.ch_model.specs.WorldState.{Cell, WorldEnd, WorldSocket, World}
-use Rattle.ch_model.specs.WorldSteps.{note_entry, noted, on_end, reads_item, end_closes, stepped, local_told, after_told, all_told}
+use Rattle.ch_model.specs.WorldSteps.{note_entry, on_end, reads_item, end_closes, stepped, local_told, all_told}
 
 -- no entry is a mark
 abbrev pub Unmarked : List Entry → Type 0
@@ -51,7 +50,7 @@ abbrev pub HappenedUnmarked : Happened → Type 0
 HappenedUnmarked (Ok done) = Unmarked done.0
 HappenedUnmarked (Err stop) = Unit {0}
 
-both : (xs ys : List Entry) → Unmarked xs → Unmarked ys → Unmarked (xs ++ ys)
+pub both : (xs ys : List Entry) → Unmarked xs → Unmarked ys → Unmarked (xs ++ ys)
 both xs ys a b = filter_map-append mark_number xs ys ∙ ap (λ l. l ++ filter_map mark_number ys) a ∙ b
 
 -- ---- what followed at a cell
@@ -228,7 +227,7 @@ see_unmarked pass world = by_visit (next_visit pass world) where
   by_visit None = by_test (some_timer_runs world)
   by_visit (Some visit) = happened_unmarked _ (visits_unmarked visit.which visit.socket world)
 
-abbrev SettledUnmarked : Option Happened → Type 0
+abbrev pub SettledUnmarked : Option Happened → Type 0
 SettledUnmarked None = Unit {0}
 SettledUnmarked (Some done) = HappenedUnmarked done
 
@@ -236,7 +235,7 @@ rest_unmarked : (told : List Entry) (more : Option Happened) → Unmarked told �
 rest_unmarked told None a b = tt
 rest_unmarked told (Some more) a b = after_unmarked told more a b
 
-settled_unmarked : (fuel : ℕ) (pass : Pass) (world : World) → SettledUnmarked (settled_in fuel pass world)
+pub settled_unmarked : (fuel : ℕ) (pass : Pass) (world : World) → SettledUnmarked (settled_in fuel pass world)
 settled_unmarked zero pass world = by_seen (see pass world) where
   by_seen : (o : Option (Happened × Pass)) → SettledUnmarked (elim o as (λ o. Option Happened) [
     | None ↦ Some (Ok ([], world))
@@ -305,7 +304,7 @@ other_unmarked (lines.Poke sock bytes) world = socket_unmarked sock is_strangers
 other_unmarked (lines.Quit sock) world = socket_unmarked sock is_strangers quits world (λ s w. refl)
 other_unmarked what world = refl
 
-done_unmarked : (what : What) (world : World) → AnsweredUnmarked (line_done what world)
+pub done_unmarked : (what : What) (world : World) → AnsweredUnmarked (line_done what world)
 done_unmarked what world = by_command (command_as world.names what) where
   by_command : (o : Option (ProcName × Command)) → AnsweredUnmarked (elim o as (λ o. Answered) [
     | None ↦ other_line what world

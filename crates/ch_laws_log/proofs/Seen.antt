@@ -1,9 +1,9 @@
 -- What is seen of a socket in a log is what the tests of the lawful log find there.
-use Rattle.std.proofs.Common.{◌≡◌, ℕ, zero, suc, ◌+◌, Bool, true, false, cond, not, ◌&&◌, ◌||◌, List, [], ◌∷◌, ◌++◌, length, drop, refl, sym, ap, ◌∙◌, subst, append_assoc, arith}
+use Rattle.std.proofs.Common.{◌≡◌, ℕ, zero, suc, ◌+◌, Bool, true, false, cond, not, ◌||◌, List, [], ◌∷◌, ◌++◌, length, drop, refl, sym, ap, ◌∙◌, append_assoc, arith}
 use Rattle.std.proofs.lemmas.List.{append-nil}
 use Rattle.std.proofs.lemmas.List.Sums.{sum_by-cons}
 use Rattle.std.specs.List.{list_any, flat_map, fold}
-use Rattle.std.specs.Prelude.{sum_by, Option, Some, None}
+use Rattle.std.specs.Prelude.{sum_by, Some, None}
 use Rattle.ch_model.specs.declared.name.SockName.{SockName}
 use Rattle.ch_model.specs.declared.name.End.{End}
 use Rattle.ch_model.specs.declared.name.End.TheVariants.{O, T}
@@ -17,7 +17,7 @@ use Rattle.ch_model.specs.Sockets.{is_opening, opens_opener, opens_target, close
 use Rattle.ch_model.specs.Stages.{Stage, Pending, Open, Ended, is_ended}
 use Rattle.ch_model.specs.WorldState.{WorldEnd}
 use Rattle.ch_laws_log.specs.Agrees.{IsAsTold}
-use Rattle.ch_laws_log.specs.Seen.{SeenEnd, Seen, unseen, is_of, grown, raised, sees, sees_entry, seen_in, end_seen, stage_seen}
+use Rattle.ch_laws_log.proofs.Views.{SeenEnd, Seen, unseen, is_of, grown, raised, sees, sees_entry, seen_in, end_seen, stage_seen}
 
 fold_end : {A B : Type 0} (f : B → A → B) (a : B) (xs : List A) (x : A) → fold f a (xs ++ x ∷ []) ≡ f (fold f a xs) x
 fold_end f a [] x = refl

@@ -1,2 +1,3 @@
-pub mod Seen
 pub mod Agrees
+pub mod Lines
+pub mod HostEnds
