@@ -1,9 +1,7 @@
 -- A line that was read and run is one line of the model.
 use Rattle.std.proofs.Common.{◌≡◌, ◌<◌, ℕ, ◌+◌, ◌==◌, Bool, false, cond, List, [], ◌∷◌, ◌++◌, Option, Some, None, Result, Ok, Err, refl, sym, ◌∙◌, ap, subst, arith}
 use Rattle.std.proofs.lemmas.Bool.Decides.{nat_tests}
-use Rattle.std.proofs.lemmas.List.{append-nil}
 use Rattle.ch_base.specs.declared.memory.Stop.{Stop}
-use Rattle.ch_base.specs.declared.memory.Stop.TheVariants as stops
 use Rattle.ch_model.specs.declared.entry.Entry.{Entry}
 use Rattle.ch_model.specs.declared.line.Line.{Line}
 use Rattle.ch_model.specs.declared.line.What.{What}
@@ -14,19 +12,18 @@ use Rattle.ch_model.specs.Lines.{Built, read_line}
 use Rattle.ch_model.specs.LinesBuilt.{many_nodes}
 use Rattle.ch_model.specs.Spelling.{log_text}
 use Rattle.ch_model.specs.World.{◌>>=◌}
-use Rattle.ch_lines.specs.declared.reading.JournalError.{JournalError}
-use Rattle.ch_lines.specs.declared.reading.JournalError.TheVariants.{BadLine, OutOfMemory, Worn}
+use Rattle.ch_lines.specs.declared.reading.JournalError.TheVariants.{BadLine, Worn}
 use Rattle.ch_lines.specs.declared.grammar.Grammar.{Grammar}
 use Rattle.ch_lines.specs.declared.grammar.Grammar.TheVariants.{ManyNodes}
 use Rattle.ch_lines.specs.Grammars.{built_of}
 use Rattle.ch_lines.specs.ReadingState.{ReadingState}
-use Rattle.ch_lines.specs.Reading.{Step, numbered_line, read_as, next_line, read_on, Answers}
+use Rattle.ch_lines.specs.Reading.{Step, numbered_line, read_as, next_line, read_on}
 use Rattle.ch_laws_lines.specs.InOrder.{is_settling}
 use Rattle.ch_laws_lines.proofs.ManyNodes.{many_settles_not}
 use Rattle.ch_world.specs.Lines.{is_settle}
 use Rattle.ch_replay.specs.Running.{Running}
 use Rattle.ch_replay.specs.Steps.{run_step}
-use Rattle.ch_replay.specs.Replayed.{Progress, went_on, one_line, progress_of, Runs, RunsRead, NoneSettles, IsTurn}
+use Rattle.ch_replay.specs.Replayed.{Progress, went_on, one_line, progress_of, IsTurn}
 
 not_last : (n : ℕ) → n < 4294967295 → (n == 4294967295) ≡ false
 not_last n h = grind (arith, nat_tests)
@@ -69,40 +66,6 @@ goes_on before now run after line read entries old new own fresh few answer then
     by_read (Err kind) e a n = absurd cc
     by_read (Ok r) e a n = let found : Some (numbered_line (before.number + 1) r.0) ≡ Some (Some read) = cc in by_some r.0 r.1 e found n
 
--- where a count is worn by a line that was read, the model's line stops
-worn_on : (before now : ReadingState) (run : Running) (line : List ℕ) (read : Line)
-    → before.grammar ≡ ManyNodes → before.refused ≡ None → before.number < 4294967295
-    → (read_on before line).answer ≡ Ok (Some read) → run_step run read ≡ Err stops.Worn
-    → one_line (progress_of before run) line ≡ Err stops.Worn
-worn_on before now run line read own fresh few answer worn =
-    by_read (read_line many_nodes before.told line) refl (ap (λ (s : Step). s.answer) (sym (reads_next before line own fresh few)) ∙ answer)
-  where
-    by_some : (o : Option What) (told : Told) → read_line many_nodes before.told line ≡ Ok (o, told) → Some (numbered_line (before.number + 1) o) ≡ Some (Some read) → one_line (progress_of before run) line ≡ Err stops.Worn
-    by_some None told e a = absurd cc
-    by_some (Some what) told e a =
-        let same : record { number = before.number + 1; what = what } ≡ read = cc in
-        let ran : run_step run (record { number = before.number + 1; what = what }) ≡ Err stops.Worn = ap (run_step run) same ∙ worn in
-        let line_is : one_line (progress_of before run) line ≡ (went_on (progress_of before run) (Some what) told >>= λ done. Ok (Ok done)) = ap (λ (r : Result (Option What × Told) BadKind). elim r as (λ r. Result (Result (List ℕ × Progress) BadKind) Stop) [
-          | Err kind ↦ Ok (Err kind)
-          | Ok read ↦ (went_on (progress_of before run) read.0 read.1 >>= λ done. Ok (Ok done))
-        ]) e in
-        let went_is : went_on (progress_of before run) (Some what) told ≡ Err stops.Worn = ap (λ (d : Result (List Entry × Running) Stop). d >>= λ done. Ok (log_text done.0, record { told = told; number = before.number + 1; run = done.1 })) ran in
-        line_is ∙ ap (λ (d : Result (List ℕ × Progress) Stop). d >>= λ done. Ok (Ok done)) went_is
-
-    by_read : (r : Result (Option What × Told) BadKind) → read_line many_nodes before.told line ≡ r → (read_as before (before.number + 1) r).answer ≡ Ok (Some read) → one_line (progress_of before run) line ≡ Err stops.Worn
-    by_read (Err kind) e a = absurd cc
-    by_read (Ok r) e a = let found : Some (numbered_line (before.number + 1) r.0) ≡ Some (Some read) = cc in by_some r.0 r.1 e found
-
--- a line that was read, whatever came of it
-pub turns : (result : Result (Option BadKind) Stop) (before now : ReadingState) (run after : Running) (line : List ℕ) (read : Line) (old new : List ℕ)
-    → before.grammar ≡ ManyNodes → before.refused ≡ None → before.number < 4294967295
-    → (read_on before line).answer ≡ Ok (Some read) → now ≡ (read_on before line).after
-    → Runs result run after read old new → IsTurn result before now run after line old new
-turns (Ok None) before now run after line read old new own fresh few answer then runs = goes_on before now run after line read runs.0 old new own fresh few answer then runs.1 runs.2
-turns (Ok (Some kind)) before now run after line read old new own fresh few answer then runs = absurd runs
-turns (Err stops.OutOfMemory) before now run after line read old new own fresh few answer then runs = tt
-turns (Err stops.Worn) before now run after line read old new own fresh few answer then runs = worn_on before now run line read own fresh few answer runs
-
 -- a line that is read settles nothing
 pub settles_not : (before : ReadingState) (line : List ℕ) (read : Line)
     → before.grammar ≡ ManyNodes → before.refused ≡ None → before.number < 4294967295
@@ -122,75 +85,3 @@ settles_not before line read own fresh few answer = by_read (read_line many_node
     by_read : (r : Result (Option What × Told) BadKind) → read_line many_nodes before.told line ≡ r → (read_as before (before.number + 1) r).answer ≡ Ok (Some read) → is_settle read.what ≡ false
     by_read (Err kind) e a = absurd cc
     by_read (Ok r) e a = let found : Some (numbered_line (before.number + 1) r.0) ≡ Some (Some read) = cc in by_some r.0 r.1 e found
-
--- the header, which says nothing
-passed_over : (before now : ReadingState) (run : Running) (line old : List ℕ)
-    → before.grammar ≡ ManyNodes → before.refused ≡ None → before.number < 4294967295
-    → (read_on before line).answer ≡ Ok None → now ≡ (read_on before line).after
-    → IsTurn (Ok None) before now run run line old old
-passed_over before now run line old own fresh few answer then =
-    by_read (read_line many_nodes before.told line) refl (ap (λ (s : Step). s.answer) (sym on) ∙ answer) (then ∙ ap (λ (s : Step). s.after) on)
-  where
-    on : read_on before line ≡ read_as before (before.number + 1) (read_line many_nodes before.told line)
-    on = reads_next before line own fresh few
-
-    by_some : (o : Option What) (told : Told) → read_line many_nodes before.told line ≡ Ok (o, told) → numbered_line (before.number + 1) o ≡ None → now ≡ record { grammar = before.grammar; told = told; number = before.number + 1; refused = before.refused } → IsTurn (Ok None) before now run run line old old
-    by_some (Some what) told e a n = absurd cc
-    by_some None told e a n =
-        let line_is : one_line (progress_of before run) line ≡ Ok (Ok ([], record { told = told; number = before.number + 1; run = run })) = ap (λ (r : Result (Option What × Told) BadKind). elim r as (λ r. Result (Result (List ℕ × Progress) BadKind) Stop) [
-          | Err kind ↦ Ok (Err kind)
-          | Ok read ↦ (went_on (progress_of before run) read.0 read.1 >>= λ done. Ok (Ok done))
-        ]) e in
-        let ends : Ok (Ok ([], record { told = told; number = before.number + 1; run = run })) ≡ Ok (Ok ([], progress_of now run)) = ap (λ (p : Progress). Ok (Ok ([], p))) (sym (ap (λ (s : ReadingState). progress_of s run) n)) in
-        (ap (λ (s : ReadingState). s.grammar) n ∙ own, ap (λ (s : ReadingState). s.refused) n ∙ fresh, ap (λ (s : ReadingState). s.number) n, [], line_is ∙ ends, sym (append-nil old))
-
-    by_read : (r : Result (Option What × Told) BadKind) → read_line many_nodes before.told line ≡ r → (read_as before (before.number + 1) r).answer ≡ Ok None → now ≡ (read_as before (before.number + 1) r).after → IsTurn (Ok None) before now run run line old old
-    by_read (Err kind) e a n = absurd cc
-    by_read (Ok r) e a n = let found : numbered_line (before.number + 1) r.0 ≡ None = cc in by_some r.0 r.1 e found n
-
--- a line that is refused
-refused_on : (before : ReadingState) (run : Running) (line : List ℕ) (number : ℕ) (kind : BadKind)
-    → before.grammar ≡ ManyNodes → before.refused ≡ None → before.number < 4294967295
-    → (read_on before line).answer ≡ Err (BadLine number kind)
-    → one_line (progress_of before run) line ≡ Ok (Err kind)
-refused_on before run line number kind own fresh few answer =
-    by_read (read_line many_nodes before.told line) refl (ap (λ (s : Step). s.answer) (sym (reads_next before line own fresh few)) ∙ answer)
-  where
-    by_read : (r : Result (Option What × Told) BadKind) → read_line many_nodes before.told line ≡ r → (read_as before (before.number + 1) r).answer ≡ Err (BadLine number kind) → one_line (progress_of before run) line ≡ Ok (Err kind)
-    by_read (Ok r) e a = absurd cc
-    by_read (Err other) e a =
-        let same : other ≡ kind = cc in
-        ap (λ (r : Result (Option What × Told) BadKind). elim r as (λ r. Result (Result (List ℕ × Progress) BadKind) Stop) [
-          | Err kind ↦ Ok (Err kind)
-          | Ok read ↦ (went_on (progress_of before run) read.0 read.1 >>= λ done. Ok (Ok done))
-        ]) e ∙ ap (λ (k : BadKind). Ok (Err k)) same
-
-never_worn : (before : ReadingState) (line : List ℕ) → before.grammar ≡ ManyNodes → before.refused ≡ None → before.number < 4294967295 → (read_on before line).answer ≡ Err Worn → ⊥
-never_worn before line own fresh few answer = by_read (read_line many_nodes before.told line) (ap (λ (s : Step). s.answer) (sym (reads_next before line own fresh few)) ∙ answer)
-  where
-    by_read : (r : Result (Option What × Told) BadKind) → (read_as before (before.number + 1) r).answer ≡ Err Worn → ⊥
-    by_read (Ok r) a = cc
-    by_read (Err kind) a = cc
-
--- what reading a line answered, and what was done of it
-pub turned : (result : Result (Option BadKind) Stop) (answer : Result (Option Line) JournalError) (before now : ReadingState) (run after : Running) (line old new : List ℕ)
-    → before.grammar ≡ ManyNodes → before.refused ≡ None → before.number < 4294967295
-    → Answers answer before now (read_on before line) → RunsRead result answer run after old new
-    → IsTurn result before now run after line old new
-turned result (Ok None) before now run after line old new own fresh few a d =
-    subst (λ (r : Result (Option BadKind) Stop). IsTurn r before now run after line old new) (sym d.0)
-    (subst (λ (w : Running). IsTurn (Ok None) before now run w line old new) (sym d.1)
-    (subst (λ (t : List ℕ). IsTurn (Ok None) before now run run line old t) (sym d.2) (passed_over before now run line old own fresh few a.0 a.1)))
-turned result (Ok (Some read)) before now run after line old new own fresh few a d = turns result before now run after line read old new own fresh few a.0 a.1 d
-turned result (Err (BadLine number kind)) before now run after line old new own fresh few a d =
-    subst (λ (r : Result (Option BadKind) Stop). IsTurn r before now run after line old new) (sym d.0) (refused_on before run line number kind own fresh few a.0, d.2)
-turned result (Err OutOfMemory) before now run after line old new own fresh few a d = subst (λ (r : Result (Option BadKind) Stop). IsTurn r before now run after line old new) (sym d) tt
-turned result (Err Worn) before now run after line old new own fresh few a d = absurd (never_worn before line own fresh few a.0)
-
--- a line that was read, whatever was answered, settles nothing
-pub none_settles_in : (answer : Result (Option Line) JournalError) (before now : ReadingState) (line : List ℕ)
-    → before.grammar ≡ ManyNodes → before.refused ≡ None → before.number < 4294967295
-    → Answers answer before now (read_on before line) → NoneSettles answer
-none_settles_in (Ok (Some read)) before now line own fresh few a = settles_not before line read own fresh few a.0
-none_settles_in (Ok None) before now line own fresh few a = tt
-none_settles_in (Err e) before now line own fresh few a = tt

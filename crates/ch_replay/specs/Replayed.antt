@@ -1,14 +1,12 @@
 -- A journal replayed line by line: reading and logging in one pass. It gives the text of the log, and where and
 -- why reading stopped.
-use Rattle.std.specs.Prelude.{◌≡◌, ℕ, ◌+◌, ◌-◌, Bool, false, List, [], ◌∷◌, ◌++◌, Option, Some, None, Result, Ok, Err, if◌then◌else◌}
+use Rattle.std.specs.Prelude.{◌≡◌, ℕ, ◌+◌, ◌-◌, Bool, List, [], ◌∷◌, ◌++◌, Option, Some, None, Result, Ok, Err, if◌then◌else◌}
 use Rattle.ch_base.specs.declared.memory.Stop.{Stop}
 use Rattle.ch_base.specs.declared.memory.Stop.TheVariants as stops
 use Rattle.ch_model.specs.declared.refusal.BadKind.{BadKind}
 use Rattle.ch_model.specs.declared.refusal.BadKind.TheVariants.{Form}
 use Rattle.ch_model.specs.declared.refusal.LineFault.{LineFault}
 use Rattle.ch_model.specs.declared.refusal.LineFault.TheVariants.{Bad, TooLong}
-use Rattle.ch_model.specs.declared.entry.Entry.{Entry}
-use Rattle.ch_model.specs.declared.line.Line.{Line}
 use Rattle.ch_model.specs.declared.line.What.{What}
 use Rattle.ch_model.specs.World.{◌>>=◌}
 use Rattle.ch_model.specs.LinesTold.{Told, untold}
@@ -17,10 +15,7 @@ use Rattle.ch_model.specs.LinesBuilt.{many_nodes}
 use Rattle.ch_model.specs.Journal.{longest_journal, raw_lines, size_of, is_too_long}
 use Rattle.ch_model.specs.Spelling.{log_text}
 use Rattle.ch_lines.specs.declared.grammar.Grammar.TheVariants.{ManyNodes}
-use Rattle.ch_lines.specs.declared.reading.JournalError.{JournalError}
-use Rattle.ch_lines.specs.declared.reading.JournalError.TheVariants as errors
 use Rattle.ch_lines.specs.ReadingState.{ReadingState}
-use Rattle.ch_world.specs.Lines.{is_settle}
 use Rattle.ch_replay.specs.Running.{Running, unbegun}
 use Rattle.ch_replay.specs.Steps.{run_step}
 
@@ -77,27 +72,6 @@ Gives view (Err e) given = Stops e given
 
 abbrev pub progress_of : ReadingState → Running → Progress
 progress_of reading run = record { told = reading.told; number = reading.number; run = run }
-
--- What was done of a line that was read: its entries were appended as text; or a count is worn.
-abbrev pub Runs : Result (Option BadKind) Stop → Running → Running → Line → List ℕ → List ℕ → Type 0
-Runs (Ok None) run after line old new = (entries : List Entry) × (run_step run line ≡ Ok (entries, after)) × (new ≡ old ++ log_text entries)
-Runs (Ok (Some kind)) run after line old new = ⊥
-Runs (Err stops.OutOfMemory) run after line old new = Unit {0}
-Runs (Err stops.Worn) run after line old new = run_step run line ≡ Err stops.Worn
-
--- What was done of what reading a line answered: the line was run; or was passed over, or refused, or a count is
--- worn, and nothing was done.
-abbrev pub RunsRead : Result (Option BadKind) Stop → Result (Option Line) JournalError → Running → Running → List ℕ → List ℕ → Type 0
-RunsRead result (Ok None) run after old new = (result ≡ Ok None) × (after ≡ run) × (new ≡ old)
-RunsRead result (Ok (Some line)) run after old new = Runs result run after line old new
-RunsRead result (Err (errors.BadLine line kind)) run after old new = (result ≡ Ok (Some kind)) × (after ≡ run) × (new ≡ old)
-RunsRead result (Err errors.OutOfMemory) run after old new = result ≡ Err stops.OutOfMemory
-RunsRead result (Err errors.Worn) run after old new = result ≡ Err stops.Worn
-
--- a line that was read settles nothing
-abbrev pub NoneSettles : Result (Option Line) JournalError → Type 0
-NoneSettles (Ok (Some line)) = is_settle line.what ≡ false
-NoneSettles answer = Unit {0}
 
 -- What a turn did: a line went on, with its text appended; or was refused, and nothing was; or a count is worn.
 abbrev pub IsTurn : Result (Option BadKind) Stop → ReadingState → ReadingState → Running → Running → List ℕ → List ℕ → List ℕ → Type 0

@@ -1,19 +1,18 @@
 //! A journal replayed line by line: each line is read, run, and its entries are told as text.
 
-ghost use Rattle.std.specs.Prelude.{◌≡◌, ℕ, false, ◌+◌, ◌≤◌, ◌<◌, ◌++◌, ◌∷◌, [], length, OnOk, Ok, Some, None};
+ghost use Rattle.std.specs.Prelude.{◌≡◌, ℕ, ◌+◌, ◌≤◌, ◌<◌, ◌++◌, ◌∷◌, [], length, OnOk, Ok, Some, None};
 ghost use Rattle.ch_model.specs.Journal.{raw_lines, size_of};
 ghost use Rattle.ch_model.specs.Spelling.{log_text};
 ghost use Rattle.ch_lines.specs.declared.grammar.Grammar.TheVariants.{ManyNodes};
 ghost use Rattle.ch_lines.specs.ReadingState.{unread};
-ghost use Rattle.ch_replay.specs.Replayed.{Gives, replay_of, progress_of, Runs, RunsRead, NoneSettles, IsTurn};
+ghost use Rattle.ch_replay.specs.Replayed.{Gives, replay_of, progress_of, IsTurn};
 ghost use Rattle.ch_replay.specs.Running.{unbegun};
-ghost use Rattle.ch_world.specs.Lines.{is_settle};
 
 use crate::intake::LONGEST_JOURNAL;
 use crate::running::Running;
 use ch_base::{OutOfMemory, Stop};
 use ch_journal::{Grammar, JournalError, Reading, put_entry, split_at_byte};
-use ch_model::{BadKind, Entry, Line, LineFault};
+use ch_model::{BadKind, Entry, LineFault};
 use std::alloc::Global;
 
 /// The most bytes of a line, without its newline.
@@ -50,42 +49,6 @@ fn put_entries(entries: &[Entry], text: &mut Vec<u8>) -> Result<(), OutOfMemory>
     Ok(())
 }
 
-/// Runs a line that was read, and appends the text of its entries. None, as it isn't refused.
-fn run_line(
-    alloc: Global,
-    run: &mut Running,
-    line: &Line,
-    text: &mut Vec<u8>,
-) -> Result<Option<BadKind>, Stop>
-    requires { is_settle line.now.what ≡ false }
-    ensures { Runs result run.old run.new line.now text.old.items text.new.items }
-{
-    let entries = run.step(alloc, line)?;
-    match put_entries(entries.as_slice(), text) {
-        Ok(()) => Ok(None),
-        Err(OutOfMemory) => Err(Stop::OutOfMemory),
-    }
-}
-
-/// Runs the line that was read, where one was, or tells why it is refused.
-fn run_read(
-    alloc: Global,
-    run: &mut Running,
-    read: &Result<Option<Line>, JournalError>,
-    text: &mut Vec<u8>,
-) -> Result<Option<BadKind>, Stop>
-    requires { NoneSettles read.now }
-    ensures { RunsRead result read.now run.old run.new text.old.items text.new.items }
-{
-    match read {
-        Ok(None) => Ok(None),
-        Ok(Some(line)) => run_line(alloc, run, line, text),
-        Err(JournalError::BadLine { kind, .. }) => Ok(Some(*kind)),
-        Err(JournalError::OutOfMemory) => Err(Stop::OutOfMemory),
-        Err(JournalError::Worn) => Err(Stop::Worn),
-    }
-}
-
 /// Reads the next line and runs it, or tells why it is refused.
 fn turn(
     alloc: Global,
@@ -99,8 +62,19 @@ fn turn(
     requires few { reading.old.number < 4294967295 }
     ensures { IsTurn result reading.old reading.new run.old run.new line.now text.old.items text.new.items }
 {
-    let read = reading.line(line);
-    run_read(alloc, run, &read, text)
+    match reading.line(line) {
+        Ok(None) => Ok(None),
+        Ok(Some(line)) => {
+            let entries = run.step(alloc, line)?;
+            match put_entries(entries.as_slice(), text) {
+                Ok(()) => Ok(None),
+                Err(OutOfMemory) => Err(Stop::OutOfMemory),
+            }
+        }
+        Err(JournalError::BadLine { kind, .. }) => Ok(Some(kind)),
+        Err(JournalError::OutOfMemory) => Err(Stop::OutOfMemory),
+        Err(JournalError::Worn) => Err(Stop::Worn),
+    }
 }
 
 /// The log of a journal's text, read by a new reading and run from nothing. Both are lent, so that the walk over

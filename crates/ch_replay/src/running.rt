@@ -93,7 +93,7 @@ impl Running {
     /// What a line does: a declaration is kept, and an event line is a step of the world. After a stop
     /// nothing is known of the run.
     #[tactic(auto, unfolding(crate::specs::Steps::run_step))]
-    pub(crate) fn step(&mut self, alloc: Global, line: &Line) -> Result<Vec<Entry>, Stop>
+    fn read(&mut self, alloc: Global, line: &Line) -> Result<Vec<Entry>, Stop>
         requires { is_settle line.now.what ≡ false }
         ensures { MatchResult result (λ entries. run_step self.old line.now ≡ Ok (entries.items, self.new)) (λ e. Stops e (run_step self.old line.now)) }
     {
@@ -102,5 +102,15 @@ impl Running {
         } else {
             self.event(alloc, line)
         }
+    }
+
+    /// The same of a line that is let go after it: in a vector, whose drop is one call.
+    pub(crate) fn step(&mut self, alloc: Global, line: Line) -> Result<Vec<Entry>, Stop>
+        requires { is_settle line.what ≡ false }
+        ensures { MatchResult result (λ entries. run_step self.old line ≡ Ok (entries.items, self.new)) (λ e. Stops e (run_step self.old line)) }
+    {
+        let mut said = Vec::new(alloc);
+        said.push(line)?;
+        self.read(alloc, &said[0])
     }
 }
