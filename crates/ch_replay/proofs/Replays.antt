@@ -1,6 +1,5 @@
 -- Replaying line by line gives the text of the log of the journal, and the first line with a fault.
 use Rattle.std.specs.Prelude.{◌≡◌, ℕ, ◌+◌, ◌-◌, Bool, true, false, cond, List, [], ◌∷◌, ◌++◌, take, Option, Some, None, Result, Ok, Err, ◌==◌, if◌then◌else◌}
-use Rattle.std.specs.List.{AllByRecursion}
 use Rattle.std.proofs.Common.{refl, ap, sym, ◌∙◌, append_assoc}
 use Rattle.std.proofs.lemmas.Grind.{flat_map-append}
 use Rattle.ch_base.specs.declared.memory.Stop.{Stop}
@@ -17,7 +16,6 @@ use Rattle.ch_model.specs.Lines.{read_line}
 use Rattle.ch_model.specs.LinesBuilt.{many_nodes}
 use Rattle.ch_model.specs.Journal.{Scan, stopped, line_before, longest_journal, raw_lines, onto_first, size_of, is_too_long, scan_from, scan_lines, journal_of, first_fault}
 use Rattle.ch_model.specs.Spelling.{entry_text, log_text}
-use Rattle.ch_laws_lines.specs.InOrder.{Happens}
 use Rattle.ch_laws_lines.proofs.Order.{Tells, reads_tell, starts, events_only}
 use Rattle.ch_laws_lines.proofs.ManyNodes.{many_early}
 use Rattle.ch_laws_lines.proofs.Worlds.{of_declarations}

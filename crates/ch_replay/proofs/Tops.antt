@@ -1,23 +1,21 @@
 -- What a status tells follows from what was taken, what was logged, and what was written.
-use Rattle.std.proofs.Common.{◌≡◌, ℕ, ◌+◌, ◌-◌, ◌<◌, ◌≤◌, min, Bool, true, false, List, [], ◌∷◌, ◌++◌, length, take, Option, Some, None, Result, Ok, Err, refl, sym, ◌∙◌, ap, subst, arith}
+use Rattle.std.proofs.Common.{◌≡◌, ℕ, ◌+◌, ◌<◌, ◌≤◌, min, List, [], length, take, Option, Some, None, Result, Ok, Err, refl, sym, ◌∙◌, ap, subst, arith}
 use Rattle.std.proofs.lemmas.List.{length-take}
 use Rattle.ch_base.specs.declared.memory.Stop.{Stop}
 use Rattle.ch_base.specs.declared.memory.Stop.TheVariants as stops
 use Rattle.ch_model.specs.LinesBuilt.{many_nodes}
 use Rattle.ch_model.specs.declared.entry.Entry.{Entry}
-use Rattle.ch_model.specs.declared.refusal.BadKind.{BadKind}
 use Rattle.ch_model.specs.declared.refusal.LineFault.{LineFault}
 use Rattle.ch_model.specs.declared.refusal.LineFault.TheVariants as faults
 use Rattle.ch_model.specs.World.{◌>>=◌, log_of}
-use Rattle.ch_model.specs.Journal.{longest_journal, raw_lines, journal_of, first_fault}
+use Rattle.ch_model.specs.Journal.{longest_journal, journal_of, first_fault}
 use Rattle.ch_model.specs.Spelling.{log_text}
 use Rattle.ch_laws_one_node.proofs.Limits.{all_within}
 use Rattle.ch_laws_lines.proofs.OneOfMany.{one_lawful, one_promised}
-use Rattle.ch_journal.specs.declared.status.Status.{Status}
-use Rattle.ch_journal.specs.declared.status.Status.TheVariants.{Done, BadLine, TooLong, WriteFault, Worn}
+use Rattle.ch_journal.specs.declared.status.Status.TheVariants.{WriteFault, Worn}
 use Rattle.ch_replay.specs.Outside.{IsIntake, Appended, AppendedSome}
 use Rattle.ch_replay.specs.Replayed.{replay_of}
-use Rattle.ch_replay.specs.Ends.{Ends, IsLogged, IsLoggedInPart, status_of_fault}
+use Rattle.ch_replay.specs.Ends.{Ends, IsLogged, status_of_fault}
 use Rattle.ch_replay.proofs.Replays.{told_of, replays}
 
 -- the log whose text was told, and the fault

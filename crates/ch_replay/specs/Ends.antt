@@ -1,5 +1,5 @@
 -- What each status of a run says.
-use Rattle.std.specs.Prelude.{◌≡◌, ℕ, List, [], Option, Some, None, Result, Ok, Err}
+use Rattle.std.specs.Prelude.{◌≡◌, ℕ, List, [], Option, Some, None, Ok, Err}
 use Rattle.ch_base.specs.declared.memory.Stop.TheVariants as stops
 use Rattle.ch_model.specs.LinesBuilt.{many_nodes}
 use Rattle.ch_model.specs.declared.entry.Entry.{Entry}

@@ -1,4 +1,4 @@
-use Rattle.std.proofs.Common.{ℕ, Bool, ◌≡◌, ◌+◌, ◌≤◌, length, arith, nat_lt, true, false, cond, refl, ap, ◌∙◌}
+use Rattle.std.proofs.Common.{ℕ, Bool, ◌≡◌, ◌+◌, length, arith, nat_lt, true, false, cond, refl, ap, ◌∙◌}
 use mir.Val.{bool_byte}
 use Rattle.std.proofs.lemmas.Bool.Decides.{nat_tests}
 use Rattle.ch_model.specs.Journal.{raw_lines, size_of}

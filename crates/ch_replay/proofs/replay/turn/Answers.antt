@@ -1,4 +1,4 @@
-use Rattle.std.proofs.Common.{Ok, sym, ap, ◌∙◌, ◌++◌}
+use Rattle.std.proofs.Common.{Ok, ap, ◌∙◌, ◌++◌}
 use Rattle.ch_model.specs.Spelling.{log_text}
 use Rattle.ch_replay.proofs.LinesRead.{goes_on, settles_not}
 use Rattle.ch_replay.proofs.replay.turn.Goals as goal
