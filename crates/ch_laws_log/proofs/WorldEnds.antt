@@ -1,5 +1,5 @@
 -- The world's ends follow what a cell tells: each stands as the cell's steps say.
-use Rattle.std.proofs.Common.{◌≡◌, ℕ, ◌+◌, Bool, true, false, cond, ◌&&◌, ◌||◌, List, [], ◌∷◌, ◌++◌, Ok, Err, refl, sym, ap, ◌∙◌, subst, arith}
+use Rattle.std.proofs.Common.{◌≡◌, ℕ, Bool, true, false, cond, ◌&&◌, ◌||◌, List, [], ◌∷◌, ◌++◌, refl, sym, ap, ◌∙◌, subst}
 use Rattle.std.proofs.lemmas.Bool.{and_parts}
 use Rattle.std.specs.Option.{option_map}
 use Rattle.std.specs.Prelude.{find, Option, Some, None, ◌==◌}
@@ -25,9 +25,9 @@ use Rattle.ch_model.specs.WorldSteps.{on_end, later_places, item_is_read, reads_
 use Rattle.ch_laws_log.specs.HostEnds.{stage_after, stage_after_all, IsNewTo, AreNewTo, steps_in}
 use Rattle.ch_laws_log.specs.WorldEnds.{stage_found, stage_held, stage_there}
 use Rattle.ch_laws_log.proofs.Agreeing.{with_end_is, name_of_end, Good, keeps_good}
-use Rattle.ch_laws_log.proofs.Kept.{Keeps, one_told}
+use Rattle.ch_laws_log.proofs.Kept.{one_told}
 use Rattle.ch_laws_log.proofs.HostTold.{number_same}
-use Rattle.ch_laws_log.proofs.Stored.{number_is, same_is, self_same, find_name, find_stored, IsHeld, found_end, Distinct, next_is_new}
+use Rattle.ch_laws_log.proofs.Stored.{number_is, same_is, self_same, find_name, find_stored, found_end, Distinct, next_is_new}
 
 -- ---- which end is found
 
