@@ -98,7 +98,7 @@ onward I log one two world i = subst (λ (l : List Entry). I l world) (append_as
 
 -- ---- what followed at a cell
 
-one_told : {R : Type 0} {W : ℕ → List ℕ → Type 0} (I : List Entry → World → Type 0) → Keeps R W I → (log : List Entry) (place : ℕ) (cell : Cell) (entry : LocalEntry) (world : World) → I log world → I (log ++ (local_told place cell entry world).0) (local_told place cell entry world).1
+pub one_told : {R : Type 0} {W : ℕ → List ℕ → Type 0} (I : List Entry → World → Type 0) → Keeps R W I → (log : List Entry) (place : ℕ) (cell : Cell) (entry : LocalEntry) (world : World) → I log world → I (log ++ (local_told place cell entry world).0) (local_told place cell entry world).1
 one_told I k log place cell (local.Step step) world i = k.step log world place cell step i
 one_told I k log place cell (local.Note note) world i = k.note log world note i
 

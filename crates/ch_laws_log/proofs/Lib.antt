@@ -16,3 +16,4 @@ pub mod HostItemsTold
 pub mod HostEventsTold
 pub mod Posts
 pub mod CellTold
+pub mod WorldEnds

@@ -1,3 +1,4 @@
 pub mod Agrees
 pub mod Lines
 pub mod HostEnds
+pub mod WorldEnds

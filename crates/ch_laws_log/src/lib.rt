@@ -35,9 +35,11 @@ ghost use Rattle.ch_model.specs.World.{world_new, log_from, log_of};
 ghost use Rattle.ch_model.specs.WorldLines.{can_join, can_come, can_feed, line_done};
 ghost use Rattle.ch_model.specs.WorldSockets.{is_socket_named};
 ghost use Rattle.ch_model.specs.WorldState.{Cell, WorldSocket, World};
+ghost use Rattle.ch_model.specs.WorldSteps.{all_told};
 ghost use Rattle.ch_laws_log.specs.Agrees.{IsPlaced, IsOwned, AllPlaced, IsAsTold, is_refusal};
-ghost use Rattle.ch_laws_log.specs.HostEnds.{stage_at, IsSound, Tells, AllTold, opens_nothing, opens_no_end, steps_in};
+ghost use Rattle.ch_laws_log.specs.HostEnds.{stage_at, IsSound, Tells, AllTold, opens_nothing, opens_no_end, steps_in, AreNewTo, stage_after_all};
 ghost use Rattle.ch_laws_log.specs.Lines.{AllLines, AreNumbered, is_of_no_end, is_of_network, feeds_some, is_without_refusal};
+ghost use Rattle.ch_laws_log.specs.WorldEnds.{stage_held, stage_there};
 
 /// The log of a journal marks each of its event lines once, in order, and no other line: whatever lines it has, in a
 /// settle too. Declarations have no mark.
@@ -114,4 +116,12 @@ pub fn hosts_tell_ends()
 /// in the order in which they were told, say how the ends stand after it.
 pub fn cells_tell_ends()
     ensures { (cell after : Cell) (event : LocalEvent) (verdict : Verdict) (told : List LocalEntry) → opens_no_end event ≡ true → IsSound cell.host → cell_step cell event ≡ Ok ((verdict, told), after) → Tells cell.host (steps_in told) after.host }
+{}
+
+/// The world's ends follow what a cell tells: of the cell at this place, the end under each number stands as the steps
+/// that were told say, and no end of another cell has changed. So it is in a world after any lines, where what is dialed
+/// is new to the cell.
+pub fn worlds_follow_cells()
+    ensures { (journal lines : List Line) (log : List Entry) (world : World) (place : ℕ) (cell : Cell) (told : List LocalEntry) → log_from (world_new journal) lines ≡ Ok (log, world) → ((m : ℕ) → AreNewTo m (steps_in told) (stage_held place m world.sockets)) → (p n : ℕ)
+        → stage_held p n (all_told place cell told world).1.sockets ≡ stage_there place p (stage_after_all n (steps_in told) (stage_held p n world.sockets)) (stage_held p n world.sockets) }
 {}
