@@ -1,6 +1,6 @@
 //! The world that declarations make.
 
-ghost use Rattle.std.specs.Prelude.{◌≡◌, ◌++◌, ◌∷◌, [], map, filter, IfOk, OnOk};
+ghost use Rattle.std.specs.Prelude.{◌≡◌, ◌++◌, ◌∷◌, [], map, filter, None, IfOk, OnOk};
 ghost use Rattle.std.specs.List.{flat_map, list_any};
 ghost use Rattle.std.specs.Str.{bytes_eq};
 ghost use Rattle.ch_cell.specs.New.{AreOf, named};
@@ -195,6 +195,17 @@ fn add_first(firsts: &mut Vec<Address>, address: &Address) -> Result<(), OutOfMe
     Ok(())
 }
 
+/// The host texts of nodes, from which each host takes peers.
+fn circle(alloc: Global, nodes: &[Node]) -> Result<Vec<Text>, OutOfMemory>
+    ensures { IfOk result (λ hosts. hosts.items ≡ map (λ node. node.address.host) nodes.now) }
+{
+    let mut hosts = Vec::new(alloc);
+    for node in nodes {
+        hosts.push(node.address.host.copy()?)?;
+    }
+    Ok(hosts)
+}
+
 /// One address of each host and port, that which is declared first, in order.
 #[tactic(auto, using(crate::proofs::Declares::firsts_are))]
 fn firsts(alloc: Global, nodes: &[Node]) -> Result<Vec<Address>, OutOfMemory>
@@ -302,8 +313,8 @@ impl Realm {
     {
         let lines = declared.lines.as_slice();
         let names = names(alloc, lines)?;
-        let circle = names.node_hosts()?;
         let nodes = nodes(alloc, lines)?;
+        let circle = circle(alloc, nodes.as_slice())?;
         let addresses = firsts(alloc, nodes.as_slice())?;
         let cells = cells(
             alloc,
@@ -312,12 +323,25 @@ impl Realm {
             nodes.as_slice(),
             addresses.as_slice(),
         )?;
-        Ok(Realm {
+        let strangers = strangers(alloc, lines)?;
+        Ok(Realm::begun(names, strangers, cells, Sockets::new(alloc)))
+    }
+
+    /// The world of these names and hosts, where nothing was said.
+    fn begun(
+        names: Names,
+        strangers: Vec<Stranger>,
+        cells: Vec<Hosted>,
+        sockets: Sockets,
+    ) -> Realm
+        ensures { result ≡ record { names = names; strangers = strangers.items; cells = cells.items; sockets = sockets; last = None } }
+    {
+        Realm {
             names,
-            strangers: strangers(alloc, lines)?,
+            strangers,
             cells,
-            sockets: Sockets::new(alloc),
+            sockets,
             last: None,
-        })
+        }
     }
 }
