@@ -27,18 +27,22 @@ use Rattle.ch_model.specs.WorldState.{Cell, WorldEnd, WorldSocket, World}
 use Rattle.ch_model.specs.WorldSockets as world
 use Rattle.ch_model.specs.WorldSockets.{end_of, with_end, with_end_of, is_end_of, end_at, end_of_nobody, is_socket_named, store_in, find_end, item_arrives, ended, new_socket}
 use Rattle.ch_model.specs.WorldSteps.{later_places, on_end, item_is_read, reads_item, end_closes, stepped, all_told}
-use Rattle.ch_model.specs.WorldHappenings.{with_cell}
+use Rattle.ch_model.specs.WorldHappenings.{Answered, nothing, with_cell, cell_told, cell_hears}
 use Rattle.ch_model.specs.CellSteps.{told_steps}
 use Rattle.ch_race.specs.Pair.{Side, Lesser, Greater, other, Sock, dead}
 use Rattle.ch_laws_race.specs.Scene.{Party, Scene, host_in, hosts_of, link_of, done_by}
 use Rattle.ch_laws_race.specs.View.{Reader, reader_of, record_of, reader_at, sock_with, sock_of, sock_seen, has_end, place_of, with_places, is_shut, seen, view}
 use Rattle.ch_laws_race.specs.Reading.{IsSeen}
-use Rattle.ch_laws_race.specs.Others.{IsOthers, IsElsewhere, StepsElsewhere, AreElsewhere, KeepsPair, AreKnown, DoneElsewhere, IsUnseen}
+use Rattle.ch_laws_race.specs.Others.{IsOthers, IsElsewhere, StepsElsewhere, AreElsewhere, KeepsPair, AreKnown, DoneElsewhere, IsUnseen, DialsNew, AreNew, HearsThird}
+use Rattle.ch_laws_race.specs.Chains.{steps_told}
+use Rattle.ch_laws_race.specs.Happenings.{IsHappening}
+use Rattle.ch_model.specs.declared.local.LocalEvent.{LocalEvent}
+use Rattle.ch_model.specs.Cell.{cell_step}
 use Rattle.ch_laws_race.proofs.Keys.{equal_numbers}
-use Rattle.ch_laws_race.proofs.Sockets.{by_test, same_place, given, name_self, Alike, alike_self, alike_with, at_alike}
+use Rattle.ch_laws_race.proofs.Sockets.{by_test, same_place, other_place, given, name_self, Alike, alike_self, alike_with, at_alike}
 use Rattle.ch_laws_race.proofs.Views.{alike_pairs, at_place, hosts_set, self_number}
 use Rattle.ch_laws_race.proofs.Grown.{stored_last}
-use Rattle.ch_laws_race.proofs.Same.{all_cells}
+use Rattle.ch_laws_race.proofs.Same.{Same, all_same, all_cells}
 
 not_true : {A : Type 0} → false ≡ true → A
 not_true h = absurd (clash h) where
@@ -50,16 +54,23 @@ pub record Shows (party : Side → Party) (xs ys : List WorldSocket) : Type 0 wh
   pub socks : (hosts : ℕ → HostState) (j : ℕ) → sock_seen party hosts (slice_get ys j) ≡ sock_seen party hosts (slice_get xs j)
   pub places : (c m : ℕ) → list_any (has_end c m) xs ≡ true → place_of c ys m ≡ place_of c xs m
   pub ends : (c m : ℕ) → list_any (has_end c m) xs ≡ true → list_any (has_end c m) ys ≡ true
+  pub third : (c m : ℕ) → IsElsewhere party (find_end c m xs) → IsElsewhere party (find_end c m ys)
 
 shows_self : (party : Side → Party) (xs : List WorldSocket) → Shows party xs xs
-shows_self party xs = record { socks = λ hosts j. refl; places = λ c m h. refl; ends = λ c m h. h }
+shows_self party xs = record { socks = λ hosts j. refl; places = λ c m h. refl; ends = λ c m h. h; third = λ c m h. h }
 
 shows_more : (party : Side → Party) (xs ys zs : List WorldSocket) → Shows party xs ys → Shows party ys zs → Shows party xs zs
 shows_more party xs ys zs a b = record {
   socks = λ hosts j. b.socks hosts j ∙ a.socks hosts j;
   places = λ c m h. b.places c m (a.ends c m h) ∙ a.places c m h;
   ends = λ c m h. b.ends c m (a.ends c m h);
+  third = λ c m h. b.third c m (a.third c m h);
 }
+
+-- what a cell has under a number, where the first socket has that name, and that end is the cell's
+abbrev found_in : ℕ → ℕ → List WorldSocket → SockName → Option End → Option (SockName × End)
+found_in c m rest name None = find_end c m rest
+found_in c m rest name (Some e) = Some (name, e)
 
 -- another's socket is dead
 is_dead : (party : Side → Party) (hosts : ℕ → HostState) (u : WorldSocket) → IsOthers party u.name → sock_seen party hosts (Some u) ≡ dead
@@ -71,6 +82,7 @@ shows_first party s t rest a off = record {
   socks = socks;
   places = λ c m h. ap (λ (o : Option End). cond (is_some o) 0 (suc (place_of c rest m))) (at_alike s t c m a);
   ends = λ c m h. ap (λ (o : Option End). is_some o || list_any (has_end c m) rest) (at_alike s t c m a) ∙ h;
+  third = λ c m h. subst (IsElsewhere party) (sym (ap (λ (o : Option End). found_in c m rest t.name o) (at_alike s t c m a) ∙ ap (λ (n : SockName). found_in c m rest n (end_at c m s)) a.name)) h;
 } where
   socks : (hosts : ℕ → HostState) (j : ℕ) → sock_seen party hosts (slice_get (t ∷ rest) j) ≡ sock_seen party hosts (slice_get (s ∷ rest) j)
   socks hosts zero = is_dead party hosts t (ap (is_between (party Lesser).name (party Greater).name) a.name ∙ off) ∙ sym (is_dead party hosts s off)
@@ -82,6 +94,7 @@ shows_rest party known xs ys a = record {
   socks = socks;
   places = λ c m h. place_by c m (has_end c m known) h;
   ends = λ c m h. end_by c m (has_end c m known) h;
+  third = λ c m h. third_by c m (end_at c m known) h;
 } where
   socks : (hosts : ℕ → HostState) (j : ℕ) → sock_seen party hosts (slice_get (known ∷ ys) j) ≡ sock_seen party hosts (slice_get (known ∷ xs) j)
   socks hosts zero = refl
@@ -95,16 +108,25 @@ shows_rest party known xs ys a = record {
   end_by c m true h = refl
   end_by c m false h = a.ends c m h
 
+  third_by : (c m : ℕ) (o : Option End) → IsElsewhere party (found_in c m xs known.name o) → IsElsewhere party (found_in c m ys known.name o)
+  third_by c m None h = a.third c m h
+  third_by c m (Some e) h = h
+
 -- another's socket is opened
 shows_last : (party : Side → Party) (new : WorldSocket) (xs : List WorldSocket) → IsOthers party new.name → Shows party xs (xs ++ new ∷ [])
 shows_last party new [] off = record {
   socks = socks;
   places = λ c m h. not_true h;
   ends = λ c m h. not_true h;
+  third = λ c m h. third_by c m (end_at c m new);
 } where
   socks : (hosts : ℕ → HostState) (j : ℕ) → sock_seen party hosts (slice_get (new ∷ []) j) ≡ sock_seen party hosts (slice_get [] j)
   socks hosts zero = is_dead party hosts new off
   socks hosts (suc j) = refl
+
+  third_by : (c m : ℕ) (o : Option End) → IsElsewhere party (found_in c m [] new.name o)
+  third_by c m None = tt
+  third_by c m (Some e) = off
 shows_last party new (known ∷ rest) off = shows_rest party known rest (rest ++ new ∷ []) (shows_last party new rest off)
 
 name_is : (a b : SockName) → same_socket a b ≡ true → a ≡ b
@@ -272,3 +294,67 @@ unseen scene place cell done h = record { steps = h.steps; host = h.host; does =
 -- at a host of the two
 pub no_moves : (scene : Scene) (x : Side) (cell : Cell × ℕ) (done : Stepped) → IsUnseen scene (scene.party x).place cell done → IsSeen scene x cell done []
 no_moves scene x cell done u = record { steps = u.steps; host = u.host; does = u.does; allowed = tt; seen = u.same }
+
+-- ---- a third host
+
+-- a cell that has no end of a socket between the two
+free_found : (party : Side → Party) (place m : ℕ) (xs : List WorldSocket)
+    → ((j : ℕ) (u : WorldSocket) → slice_get xs j ≡ Some u → is_between (party Lesser).name (party Greater).name u.name ≡ true → (e : End) → is_end_of place m (end_of e u) ≡ false) → IsElsewhere party (find_end place m xs)
+free_found party place m [] f = tt
+free_found party place m (known ∷ rest) f = by_end (end_at place m known) refl (free_found party place m rest (λ j u at own e. f (suc j) u at own e)) where
+  clash : {A : Type 0} (e : End) → ◌≡◌ {A = Option End} (Some e) None → A
+  clash e h = absurd (no h) where
+    no : ◌≡◌ {A = Option End} (Some e) None → ⊥
+    no q = cc
+
+  none_here : is_between (party Lesser).name (party Greater).name known.name ≡ true → end_at place m known ≡ None
+  none_here own = ap (λ b. cond b (Some O) (cond (is_end_of place m known.t) (Some T) None)) (f 0 known refl own O) ∙ ap (λ b. cond b (Some T) None) (f 0 known refl own T)
+
+  by_end : (o : Option End) → end_at place m known ≡ o → IsElsewhere party (find_end place m rest) → IsElsewhere party (found_in place m rest known.name o)
+  by_end None is later = later
+  by_end (Some e) is later = by_test (is_between (party Lesser).name (party Greater).name known.name) (λ own. clash e (sym is ∙ none_here own)) (λ off. off)
+
+step_third : (party : Side → Party) (place : ℕ) (c : Cell) (step : Step) (w : World) → ((m : ℕ) → IsElsewhere party (find_end place m w.sockets)) → DialsNew party place c step w → StepsElsewhere party place c step w
+step_third party place c (steps.Dial sock end peer) w third new = new
+step_third party place c (steps.Read sock) w third new = third sock
+step_third party place c (steps.Write sock bytes said) w third new = third sock
+step_third party place c (steps.Up sock) w third new = tt
+step_third party place c (steps.Down sock) w third new = third sock
+step_third party place c (steps.Left sock) w third new = third sock
+step_third party place c (steps.Broke end peer why) w third new = tt
+step_third party place c (steps.Post end event) w third new = tt
+
+steps_third : (party : Side → Party) (place : ℕ) (c : Cell) (done : List Step) (w : World) → ((m : ℕ) → IsElsewhere party (find_end place m w.sockets)) → AreNew party place c done w → AreElsewhere party place c done w
+steps_third party place c [] w third new = tt
+steps_third party place c (step ∷ rest) w third new = let here = step_third party place c step w third new.0 in
+    (here, steps_third party place c rest (stepped place c step w).1 (λ m. (shows_step party place c step w here).third place m (third m)) new.1)
+
+pub third_hears : (scene : Scene) (place : ℕ) (cell : Cell × ℕ) (event : LocalEvent) → HearsThird scene place cell event → IsHappening scene (cell_hears place event scene.world) []
+third_hears scene place cell event h = record {
+  verdict = h.verdict;
+  entries = (all_told place h.after h.told (with_cell place (h.after, cell.1) scene.world)).0;
+  now = (all_told place h.after h.told (with_cell place (h.after, cell.1) scene.world)).1;
+  does = ap (λ (o : Option (Cell × ℕ)). elim o as (λ o. Answered) [ None ↦ nothing scene.world | Some c ↦ cell_told place c scene.world (cell_step c.0 event) ]) h.there ∙ ap (cell_told place cell scene.world) h.does;
+  allowed = tt;
+  seen = ap (λ (f : ℕ → HostState). seen scene.party f (all_told place h.after h.told W).1.sockets scene.quiet) hosts_now
+      ∙ ap (λ (z : List WorldSocket). seen scene.party (at_place place h.after.host (hosts_of scene.world)) z scene.quiet) steps_alone.sockets
+      ∙ all_unseen scene place cell h.after.host keeps (all_told place h.after (told_steps (steps_told h.told)) W).1.sockets
+      (shows_steps scene.party place h.after (steps_told h.told) W (steps_third scene.party place h.after (steps_told h.told) W none_theirs h.dials)) h.known;
+} where
+  W : World
+  W = with_cell place (h.after, cell.1) scene.world
+
+  not_at : {A : Type 0} (z : Side) → (scene.party z).place ≡ place → A
+  not_at z q = absurd (other_place place (scene.party z).place (h.away z) q)
+
+  keeps : KeepsPair scene place h.after.host
+  keeps = record { link = λ z q. not_at z q; ends = λ z q. not_at z q; records = λ j u at own e m q. not_true (sym (h.free j u at own e m) ∙ q) }
+
+  none_theirs : (m : ℕ) → IsElsewhere scene.party (find_end place m scene.world.sockets)
+  none_theirs m = free_found scene.party place m scene.world.sockets (λ j u at own e. h.free j u at own e m)
+
+  steps_alone : Same (all_told place h.after h.told W).1 (all_told place h.after (told_steps (steps_told h.told)) W).1
+  steps_alone = all_same place h.after h.after h.told W W refl refl (record { names = refl; sockets = refl; places = λ a. refl })
+
+  hosts_now : hosts_of (all_told place h.after h.told W).1 ≡ at_place place h.after.host (hosts_of scene.world)
+  hosts_now = ap (λ (z : List (Cell × ℕ)). λ (p : ℕ). host_in (slice_get z p)) (all_cells place h.after h.told W) ∙ hosts_set scene.world place cell h.after cell.1 h.there

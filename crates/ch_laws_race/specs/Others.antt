@@ -1,5 +1,5 @@
 -- What is done at sockets and links of others.
-use Rattle.std.specs.Prelude.{◌≡◌, ℕ, Bool, true, false, List, [], ◌∷◌, find, slice_get, Option, Some, None, Ok}
+use Rattle.std.specs.Prelude.{◌≡◌, ℕ, Bool, true, false, List, [], ◌∷◌, find, nat_eq, slice_get, Option, Some, None, Ok}
 use Rattle.std.specs.List.{list_any}
 use Rattle.ch_link.specs.Sockets.{names}
 use Rattle.ch_link.specs.declared.LinkState.TheVariants.{Idle, Up}
@@ -18,6 +18,11 @@ use Rattle.ch_model.specs.WorldSteps.{stepped}
 use Rattle.ch_model.specs.WorldHappenings.{with_cell}
 use Rattle.ch_race.specs.Pair.{Side, Lesser, Greater, other}
 use Rattle.ch_laws_race.specs.Scene.{Party, Scene, hosts_of, link_of, done_by}
+use Rattle.ch_model.specs.declared.entry.Verdict.{Verdict}
+use Rattle.ch_model.specs.declared.local.LocalEntry.{LocalEntry}
+use Rattle.ch_model.specs.declared.local.LocalEvent.{LocalEvent}
+use Rattle.ch_model.specs.Cell.{cell_step}
+use Rattle.ch_laws_race.specs.Chains.{steps_told}
 use Rattle.ch_laws_race.specs.View.{has_end, is_shut, view}
 
 -- ---- sockets
@@ -93,3 +98,28 @@ pub record IsOtherLink (scene : Scene) (place : ℕ) (cell : Cell × ℕ) (link 
   pub up : (n : ℕ) (probed : Bool) → link.state ≡ Up n probed → IsElsewhere scene.party (find_end place n scene.world.sockets)
   pub new_number : link.state ≡ Idle → list_any (has_end place (next_dial (hosts_of scene.world place))) scene.world.sockets ≡ false
   pub new_name : link.state ≡ Idle → IsNew scene.party (next_name scene.world (called scene.world.names (own_address (hosts_of scene.world place) link.end)) (called scene.world.names link.peer)) scene.world.sockets
+
+-- ---- a third host
+
+-- the names of sockets that are dialed are new, and not between these two, each in the world that the steps before leave
+abbrev pub DialsNew : (Side → Party) → ℕ → Cell → Step → World → Type 0
+DialsNew party place cell (steps.Dial sock end peer) world = IsNew party (next_name world (called world.names (own_address cell.host end)) (called world.names peer)) world.sockets
+DialsNew party place cell step world = Unit {0}
+
+abbrev pub AreNew : (Side → Party) → ℕ → Cell → List Step → World → Type 0
+AreNew party place cell [] world = Unit {0}
+AreNew party place cell (step ∷ rest) world = DialsNew party place cell step world × AreNew party place cell rest (stepped place cell step world).1
+
+-- A cell hears an event, of a host that none of the two is at, and that has no end of a socket between them; and what it dials has
+-- new names.
+pub record HearsThird (scene : Scene) (place : ℕ) (cell : Cell × ℕ) (event : LocalEvent) : Type 0 where
+  pub there : slice_get scene.world.cells place ≡ Some cell
+  pub known : AreKnown scene
+  pub away : (z : Side) → nat_eq (scene.party z).place place ≡ false
+  pub free : (j : ℕ) (u : WorldSocket) → slice_get scene.world.sockets j ≡ Some u → is_between (scene.party Lesser).name (scene.party Greater).name u.name ≡ true
+      → (e : End) (m : ℕ) → is_end_of place m (end_of e u) ≡ false
+  pub verdict : Verdict
+  pub told : List LocalEntry
+  pub after : Cell
+  pub does : cell_step cell.0 event ≡ Ok ((verdict, told), after)
+  pub dials : AreNew scene.party place after (steps_told told) (with_cell place (after, cell.1) scene.world)

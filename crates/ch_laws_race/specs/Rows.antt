@@ -197,6 +197,24 @@ three_with since = scene_with
     (host_with Greater true (link_in Greater (states.Up 1 false) [] ∷ []) (known_as Greater 1 Open (Some expected.Frame) [] ∷ []))
     (dialed_by Lesser Open Open ∷ dial_third ∷ [])
 
+-- The same, where the third's host is in the world, and is up there.
+abbrev pub met_third : WorldSocket
+met_third = record dial_third { t = record { cell = Some 2; number = Some 1; stage = Open; unread = []; places = []; is_cut = false } }
+
+abbrev pub third_cell : Cell × ℕ
+third_cell = cell_with (record {
+  host = third.host;
+  port = 1;
+  circle = (104 ∷ []) ∷ (109 ∷ []) ∷ [];
+  ends = record { number = 7; is_open = true; arrived = 1 } ∷ [];
+  links = record { end = 7; peer = address_at Lesser; state = states.Up 1 false; waits = []; given = []; created = opened 0 ∷ [] } ∷ [];
+  sockets = record { number = 1; peer_host = Some (104 ∷ []); stage = Open; user = Some (7, address_at Lesser); expected = expected.Frame; since = [] } ∷ [];
+  dials = 0;
+})
+
+abbrev pub three_hosts : Scene
+three_hosts = record (three_with []) { world = record (three_with []).world { cells = cell_with (host_of (three_with []) Lesser) ∷ cell_with (host_of (three_with []) Greater) ∷ third_cell ∷ []; sockets = dialed_by Lesser Open Open ∷ met_third ∷ [] } }
+
 -- ---- two nodes on one host
 
 -- the addresses differ by the number of the endpoint

@@ -25,7 +25,7 @@ ghost use Rattle.ch_laws_race.specs.Calls.{PutsWaiting, puts_frame, IsOfLink, Co
 ghost use Rattle.ch_model.specs.HostCalls.{host_connect, host_send, host_close};
 ghost use Rattle.ch_laws_race.specs.Chains.{Calls, IsOfCalls, moves_of};
 ghost use Rattle.ch_laws_race.specs.Happenings.{IsAll, IsHappening, HandsSome, FeedsOne, AsksNothing};
-ghost use Rattle.ch_laws_race.specs.Others.{DoneElsewhere, IsUnseen, IsOtherLink};
+ghost use Rattle.ch_laws_race.specs.Others.{DoneElsewhere, IsUnseen, IsOtherLink, HearsThird};
 ghost use Rattle.ch_base.specs.declared.address.Address.{Address};
 ghost use Rattle.ch_model.specs.declared.step.Step.{Step};
 ghost use Rattle.ch_model.specs.HostSteps.{Stepped, link_with};
@@ -46,7 +46,7 @@ ghost use Rattle.ch_link.specs.declared.LinkState.TheVariants.{Idle, Dialing, Up
 ghost use Rattle.ch_model.specs.declared.name.End.TheVariants.{O, T};
 ghost use Rattle.ch_model.specs.declared.step.Weight.TheVariants.{Free};
 ghost use Rattle.ch_model.specs.Stages.{Pending, Open, Ended};
-ghost use Rattle.ch_laws_race.specs.Rows.{up_with, dials_with, lesser_asked, greater_asked, left_with, stale, at_first, just_dialed, half_probe, half_fed, near_with, dial_near, known_near, request_of, known_as, dialed_by, dialing_by, cell_of, third, link_to_third, known_third, three_with};
+ghost use Rattle.ch_laws_race.specs.Rows.{up_with, dials_with, lesser_asked, greater_asked, left_with, stale, at_first, just_dialed, half_probe, half_fed, near_with, dial_near, known_near, request_of, known_as, dialed_by, dialing_by, cell_of, third, link_to_third, known_third, three_with, third_cell, three_hosts};
 
 /// A probe that is read on the socket that the link is up on is acknowledged there, at either end.
 pub fn probe_is_read()
@@ -245,6 +245,12 @@ pub fn calls_of_others()
         → host_close (hosts_of scene.world place) end conn ≡ Ok done → IsUnseen scene place cell (Ok done) }
 {}
 
+/// Whatever a cell hears of which the host is a third one, neither of the two being there, and what follows, is seen as nothing.
+pub fn third_host()
+    ensures { (scene : Scene) (place : ℕ) (cell : Cell × ℕ) (event : LocalEvent) → HearsThird scene place cell event
+        → IsHappening scene (cell_hears place event scene.world) [] }
+{}
+
 /// An event of a cell in which its host is called again and again, with what nodes make of what they are told between, is seen as
 /// the moves of all calls: where each call, in the scene that those before it leave, is seen as its moves.
 pub fn calls_in_turn()
@@ -293,5 +299,6 @@ pub fn scenes()
     ensures other_up { IsOtherLink (three_with []) 0 (cell_of Lesser (three_with [])) (link_to_third (Up 2 false)) }
     ensures other_idle { IsOtherLink at_first 0 (cell_of Lesser at_first) (link_with (host_of at_first Lesser) 7 third) }
     ensures elsewhere { DoneElsewhere (three_with (frame_spelling frames.Probe)) 0 (cell_of Lesser (three_with (frame_spelling frames.Probe))) (reads_front (three_with (frame_spelling frames.Probe)) Lesser (known_third (frame_spelling frames.Probe))) }
+    ensures third { HearsThird three_hosts 2 third_cell (events.Socket (sockets.Ended 1)) }
     ensures comes { Comes just_dialed Greater (cell_of Greater just_dialed) 0 (dialing_by Lesser Pending) }
 {}

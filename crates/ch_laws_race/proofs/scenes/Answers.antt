@@ -1,4 +1,4 @@
-use Rattle.std.specs.Prelude.{◌≡◌, ℕ, zero, suc, Bool, true, false, List, [], ◌∷◌, ◌++◌, find, slice_get, Some, Ok, Err}
+use Rattle.std.specs.Prelude.{◌≡◌, ℕ, zero, suc, Bool, true, false, List, [], ◌∷◌, ◌++◌, find, nat_eq, slice_get, Some, Ok, Err}
 use Rattle.std.specs.List.{list_any}
 use Rattle.std.proofs.Common.{refl, ap, sym, ◌∙◌, subst, arith, inl, inr}
 use Rattle.std.proofs.lemmas.List.{append-nil}
@@ -32,7 +32,7 @@ use Rattle.ch_laws_race.specs.Scene.{Scene, nowhere, host_of, link_of}
 use Rattle.ch_laws_race.specs.View.{has_end}
 use Rattle.ch_laws_race.specs.Sound.{Acts, HasEnd}
 use Rattle.ch_laws_race.specs.Reading.{Reads, IsSeen, reads_front}
-use Rattle.ch_laws_race.specs.Rows.{all_apart, host_with, cell_with, scene_with, known_as, request_of, just_dialed, half_probe, half_fed, cell_of, left_with, dialed_by, the_party, at_first, link_to_third, known_third, dial_third, three_with}
+use Rattle.ch_laws_race.specs.Rows.{all_apart, host_with, cell_with, scene_with, known_as, request_of, just_dialed, half_probe, half_fed, cell_of, left_with, dialed_by, the_party, at_first, link_to_third, known_third, dial_third, three_with, met_third, three_hosts}
 use Rattle.ch_laws_race.specs.Happenings.{fed_record, fed_cell, fed_scene}
 use Rattle.ch_laws_race.proofs.Read.{probe_read}
 use Rattle.ch_link.specs.Table.{step_of}
@@ -363,3 +363,22 @@ third_keeps = record { link = λ z q. refl; ends = λ z q. refl; records = third
 pub returns-clause-elsewhere : goal.returns-clause-elsewhere
 unfolding host_next digits same_node step_of
 returns-clause-elsewhere z = record { there = refl; known = three_known (frame_spelling frames.Probe); steps = _; host = After_third; does = refl; elsewhere = (refl, (refl, tt)); keeps = third_keeps }
+
+hosts_known : (z : Side) (m : ℕ) → names (link_of three_hosts z).state m ≡ true → list_any (has_end (the_party z).place m) three_hosts.world.sockets ≡ true
+unfolding same_node
+hosts_known Lesser m h = subst (λ (n : ℕ). list_any (has_end 0 n) three_hosts.world.sockets ≡ true) (same_place 0 m h) refl
+hosts_known Greater m h = subst (λ (n : ℕ). list_any (has_end 1 n) three_hosts.world.sockets ≡ true) (same_place 1 m h) refl
+
+away_from : (z : Side) → nat_eq (the_party z).place 2 ≡ false
+away_from Lesser = refl
+away_from Greater = refl
+
+third_free : (j : ℕ) (u : WorldSocket) → slice_get three_hosts.world.sockets j ≡ Some u → is_between (the_party Lesser).name (the_party Greater).name u.name ≡ true → (e : End) (m : ℕ) → is_end_of 2 m (end_of e u) ≡ false
+third_free zero u at own O m = ap (λ (z : WorldSocket). is_end_of 2 m z.o) (sym (given (dialed_by Lesser Open Open) u at))
+third_free zero u at own T m = ap (λ (z : WorldSocket). is_end_of 2 m z.t) (sym (given (dialed_by Lesser Open Open) u at))
+third_free (suc zero) u at own e m = wrong (ap (λ (z : WorldSocket). is_between (the_party Lesser).name (the_party Greater).name z.name) (given met_third u at) ∙ own)
+third_free (suc (suc j)) u at own e m = none u at
+
+pub returns-clause-third : goal.returns-clause-third
+unfolding host_on host_next same_node step_of
+returns-clause-third z = record { there = refl; known = hosts_known; away = away_from; free = third_free; verdict = _; told = _; after = _; does = refl; dials = (tt, (tt, tt)) }
