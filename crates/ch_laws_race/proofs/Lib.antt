@@ -29,3 +29,4 @@ pub mod Same
 pub mod InTurn
 pub mod Others
 pub mod OtherLinks
+pub mod OtherReads

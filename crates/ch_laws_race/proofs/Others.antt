@@ -200,7 +200,7 @@ shows_read party at w off = by_found (find (is_socket_named at.0) w.sockets) whe
   by_found None = shows_self party w.sockets
   by_found (Some socket) = shows_end party at.0 at.1 (λ end. record end { places = later_places end.places }) w (λ end. (refl, refl)) off
 
-shows_step : (party : Side → Party) (place : ℕ) (c : Cell) (step : Step) (w : World) → StepsElsewhere party place c step w → Shows party w.sockets (stepped place c step w).1.sockets
+pub shows_step : (party : Side → Party) (place : ℕ) (c : Cell) (step : Step) (w : World) → StepsElsewhere party place c step w → Shows party w.sockets (stepped place c step w).1.sockets
 shows_step party place c (steps.Dial sock end peer) w h =
     let new = new_socket w (called w.names (own_address c.host end)) (called w.names peer) c.host.host (end_of_nobody (Some place) (Some sock) Pending) peer in
     subst (Shows party w.sockets) (sym (stored_last new w.sockets h.1)) (shows_last party new w.sockets h.0)
@@ -298,7 +298,7 @@ no_moves scene x cell done u = record { steps = u.steps; host = u.host; does = u
 -- ---- a third host
 
 -- a cell that has no end of a socket between the two
-free_found : (party : Side → Party) (place m : ℕ) (xs : List WorldSocket)
+pub free_found : (party : Side → Party) (place m : ℕ) (xs : List WorldSocket)
     → ((j : ℕ) (u : WorldSocket) → slice_get xs j ≡ Some u → is_between (party Lesser).name (party Greater).name u.name ≡ true → (e : End) → is_end_of place m (end_of e u) ≡ false) → IsElsewhere party (find_end place m xs)
 free_found party place m [] f = tt
 free_found party place m (known ∷ rest) f = by_end (end_at place m known) refl (free_found party place m rest (λ j u at own e. f (suc j) u at own e)) where

@@ -7,7 +7,12 @@ use Rattle.ch_model.specs.declared.name.End.{End}
 use Rattle.ch_model.specs.declared.name.SockName.{SockName}
 use Rattle.ch_model.specs.declared.step.Step.{Step}
 use Rattle.ch_model.specs.declared.step.Step.TheVariants as steps
-use Rattle.ch_model.specs.HostState.{Link, HostState}
+use Rattle.ch_base.specs.declared.address.Address.{Address}
+use Rattle.ch_wire.specs.declared.request.Request.{Request}
+use Rattle.ch_reader.specs.declared.item.Item.TheVariants as items
+use Rattle.ch_reader.specs.declared.item.Front.TheVariants.{Whole}
+use Rattle.ch_model.specs.Host.{front_of}
+use Rattle.ch_model.specs.HostState.{Link, Socket, HostState}
 use Rattle.ch_model.specs.HostSteps.{Stepped, own_address, is_socket, is_link, link_with}
 use Rattle.ch_model.specs.HostLinks.{next_dial}
 use Rattle.ch_model.specs.Naming.{called}
@@ -98,6 +103,25 @@ pub record IsOtherLink (scene : Scene) (place : ℕ) (cell : Cell × ℕ) (link 
   pub up : (n : ℕ) (probed : Bool) → link.state ≡ Up n probed → IsElsewhere scene.party (find_end place n scene.world.sockets)
   pub new_number : link.state ≡ Idle → list_any (has_end place (next_dial (hosts_of scene.world place))) scene.world.sockets ≡ false
   pub new_name : link.state ≡ Idle → IsNew scene.party (next_name scene.world (called scene.world.names (own_address (hosts_of scene.world place) link.end)) (called scene.world.names link.peer)) scene.world.sockets
+
+-- ---- items
+
+-- what a cell has under a number is no end of a socket between the two
+abbrev pub IsFree : Scene → ℕ → ℕ → Type 0
+IsFree scene place m = (j : ℕ) (u : WorldSocket) → slice_get scene.world.sockets j ≡ Some u → is_between (scene.party Lesser).name (scene.party Greater).name u.name ≡ true → (e : End) → is_end_of place m (end_of e u) ≡ false
+
+-- a link that a host has isn't the one of these two, and is on no socket between them
+pub record IsAway (scene : Scene) (place : ℕ) (link : Link) : Type 0 where
+  pub key : (z : Side) → (scene.party z).place ≡ place → is_link (scene.party z).address.id (scene.party (other z)).address link ≡ false
+  pub named : (m : ℕ) → names link.state m ≡ true → IsFree scene place m
+
+-- The host at a place reads on a socket that isn't between these two, which is for another link than theirs, or asks one.
+pub record ReadsElsewhere (scene : Scene) (place : ℕ) (cell : Cell × ℕ) (socket : Socket) : Type 0 where
+  pub there : slice_get scene.world.cells place ≡ Some cell
+  pub known : AreKnown scene
+  pub free : IsFree scene place socket.number
+  pub user : (end : ℕ) (peer : Address) → socket.user ≡ Some (end, peer) → IsAway scene place (link_with (hosts_of scene.world place) end peer)
+  pub request : (r : Request) → (front_of socket).0 ≡ Whole (items.Request r) → IsAway scene place (link_with (hosts_of scene.world place) r.target r.from)
 
 -- ---- a third host
 

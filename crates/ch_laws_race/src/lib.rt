@@ -25,11 +25,12 @@ ghost use Rattle.ch_laws_race.specs.Calls.{PutsWaiting, puts_frame, IsOfLink, Co
 ghost use Rattle.ch_model.specs.HostCalls.{host_connect, host_send, host_close};
 ghost use Rattle.ch_laws_race.specs.Chains.{Calls, IsOfCalls, moves_of};
 ghost use Rattle.ch_laws_race.specs.Happenings.{IsAll, IsHappening, HandsSome, FeedsOne, AsksNothing};
-ghost use Rattle.ch_laws_race.specs.Others.{DoneElsewhere, IsUnseen, IsOtherLink, HearsThird};
+ghost use Rattle.ch_laws_race.specs.Others.{DoneElsewhere, IsUnseen, IsOtherLink, ReadsElsewhere, HearsThird};
 ghost use Rattle.ch_base.specs.declared.address.Address.{Address};
 ghost use Rattle.ch_model.specs.declared.step.Step.{Step};
 ghost use Rattle.ch_model.specs.HostSteps.{Stepped, link_with};
 ghost use Rattle.ch_model.specs.HostCalls.{carries};
+ghost use Rattle.ch_model.specs.Host.{front_of, handles};
 ghost use Rattle.ch_model.specs.declared.local.LocalEvent.{LocalEvent};
 ghost use Rattle.ch_model.specs.declared.local.LocalEvent.TheVariants as events;
 ghost use Rattle.ch_model.specs.declared.step.SocketEvent.TheVariants as sockets;
@@ -245,6 +246,13 @@ pub fn calls_of_others()
         → host_close (hosts_of scene.world place) end conn ≡ Ok done → IsUnseen scene place cell (Ok done) }
 {}
 
+/// An item, or a refusal, that is read on a socket that isn't between the two nodes shows nothing of them, whatever it is: at a
+/// host of the two or at another.
+pub fn item_of_others()
+    ensures { (scene : Scene) (place : ℕ) (cell : Cell × ℕ) (socket : Socket) (done : List Step × HostState) → ReadsElsewhere scene place cell socket
+        → handles socket (front_of socket) (hosts_of scene.world place) ≡ Ok done → IsUnseen scene place cell (Ok done) }
+{}
+
 /// Whatever a cell hears of which the host is a third one, neither of the two being there, and what follows, is seen as nothing.
 pub fn third_host()
     ensures { (scene : Scene) (place : ℕ) (cell : Cell × ℕ) (event : LocalEvent) → HearsThird scene place cell event
@@ -299,6 +307,7 @@ pub fn scenes()
     ensures other_up { IsOtherLink (three_with []) 0 (cell_of Lesser (three_with [])) (link_to_third (Up 2 false)) }
     ensures other_idle { IsOtherLink at_first 0 (cell_of Lesser at_first) (link_with (host_of at_first Lesser) 7 third) }
     ensures elsewhere { DoneElsewhere (three_with (frame_spelling frames.Probe)) 0 (cell_of Lesser (three_with (frame_spelling frames.Probe))) (reads_front (three_with (frame_spelling frames.Probe)) Lesser (known_third (frame_spelling frames.Probe))) }
+    ensures item_elsewhere { ReadsElsewhere (three_with (frame_spelling frames.Probe)) 0 (cell_of Lesser (three_with (frame_spelling frames.Probe))) (known_third (frame_spelling frames.Probe)) }
     ensures third { HearsThird three_hosts 2 third_cell (events.Socket (sockets.Ended 1)) }
     ensures comes { Comes just_dialed Greater (cell_of Greater just_dialed) 0 (dialing_by Lesser Pending) }
 {}

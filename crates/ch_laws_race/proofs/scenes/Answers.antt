@@ -17,14 +17,18 @@ use Rattle.ch_link.specs.declared.LinkState.TheVariants.{Idle, Up}
 use Rattle.ch_link.specs.declared.LinkState.{LinkState}
 use Rattle.std.proofs.lemmas.Bool.{eqb-true}
 use Rattle.ch_model.specs.Same.{is_between}
-use Rattle.ch_laws_race.specs.Others.{IsElsewhere, KeepsPair}
+use Rattle.ch_laws_race.specs.Others.{IsElsewhere, KeepsPair, IsFree, IsAway}
+use Rattle.ch_base.specs.declared.address.Address.{Address}
+use Rattle.ch_wire.specs.declared.request.Request.{Request}
+use Rattle.ch_reader.specs.declared.item.Front.{Front}
+use Rattle.ch_reader.specs.declared.item.Front.TheVariants.{Whole}
 use Rattle.ch_watch.specs.Same.{same_node}
 use Rattle.ch_model.specs.declared.name.End.{End}
 use Rattle.ch_model.specs.declared.name.End.TheVariants.{O, T}
 use Rattle.ch_model.specs.Stages.{Open, Ended}
 use Rattle.ch_model.specs.HostState.{Link, Socket, HostState}
 use Rattle.ch_model.specs.Host.{host_on, host_next}
-use Rattle.ch_model.specs.HostSteps.{Stepped, is_socket, is_link}
+use Rattle.ch_model.specs.HostSteps.{Stepped, is_socket, is_link, link_with}
 use Rattle.ch_model.specs.WorldState.{WorldSocket}
 use Rattle.ch_model.specs.WorldSockets.{end_of, is_end_of, find_end}
 use Rattle.ch_race.specs.Pair.{Side, Lesser, Greater, other}
@@ -32,7 +36,7 @@ use Rattle.ch_laws_race.specs.Scene.{Scene, nowhere, host_of, link_of}
 use Rattle.ch_laws_race.specs.View.{has_end}
 use Rattle.ch_laws_race.specs.Sound.{Acts, HasEnd}
 use Rattle.ch_laws_race.specs.Reading.{Reads, IsSeen, reads_front}
-use Rattle.ch_laws_race.specs.Rows.{all_apart, host_with, cell_with, scene_with, known_as, request_of, just_dialed, half_probe, half_fed, cell_of, left_with, dialed_by, the_party, at_first, link_to_third, known_third, dial_third, three_with, met_third, three_hosts}
+use Rattle.ch_laws_race.specs.Rows.{all_apart, host_with, cell_with, scene_with, known_as, request_of, just_dialed, half_probe, half_fed, cell_of, left_with, dialed_by, the_party, at_first, link_to_third, known_third, dial_third, three_with, met_third, three_hosts, third}
 use Rattle.ch_laws_race.specs.Happenings.{fed_record, fed_cell, fed_scene}
 use Rattle.ch_laws_race.proofs.Read.{probe_read}
 use Rattle.ch_link.specs.Table.{step_of}
@@ -382,3 +386,28 @@ third_free (suc (suc j)) u at own e m = none u at
 pub returns-clause-third : goal.returns-clause-third
 unfolding host_on host_next same_node step_of
 returns-clause-third z = record { there = refl; known = hosts_known; away = away_from; free = third_free; verdict = _; told = _; after = _; does = refl; dials = (tt, (tt, tt)) }
+
+two_free : (j : ℕ) (u : WorldSocket) → slice_get Probe_from_third.world.sockets j ≡ Some u → is_between (the_party Lesser).name (the_party Greater).name u.name ≡ true → (e : End) → is_end_of 0 2 (end_of e u) ≡ false
+two_free zero u at own O = ap (λ (z : WorldSocket). is_end_of 0 2 z.o) (sym (given (dialed_by Lesser Open Open) u at))
+two_free zero u at own T = ap (λ (z : WorldSocket). is_end_of 0 2 z.t) (sym (given (dialed_by Lesser Open Open) u at))
+two_free (suc zero) u at own e = wrong (ap (λ (z : WorldSocket). is_between (the_party Lesser).name (the_party Greater).name z.name) (given dial_third u at) ∙ own)
+two_free (suc (suc j)) u at own e = none u at
+
+no_request : {A : Type 0} (r : Request) → ◌≡◌ {A = Front} (Whole (items.Frame frames.Probe)) (Whole (items.Request r)) → A
+no_request r h = absurd (clash h) where
+  clash : ◌≡◌ {A = Front} (Whole (items.Frame frames.Probe)) (Whole (items.Request r)) → ⊥
+  clash q = cc
+
+third_away : IsAway Probe_from_third 0 (link_with (host_of Probe_from_third Lesser) 7 third)
+unfolding same_node
+third_away = record { key = third_key (Up 2 false); named = λ m h. subst (λ (n : ℕ). IsFree Probe_from_third 0 n) (same_place 2 m h) two_free }
+
+pub returns-clause-item_elsewhere : goal.returns-clause-item_elsewhere
+unfolding digits
+returns-clause-item_elsewhere z = record {
+  there = refl;
+  known = three_known (frame_spelling frames.Probe);
+  free = two_free;
+  user = λ end peer h. subst (λ (u : ℕ × Address). IsAway Probe_from_third 0 (link_with (host_of Probe_from_third Lesser) u.0 u.1)) (given (7, third) (end, peer) h) third_away;
+  request = λ r h. no_request r h;
+}
