@@ -46,10 +46,10 @@ use Rattle.ch_laws_race.proofs.Grown.{seen_alone}
 -- ---- the host
 
 -- a link in a state, with its key
-abbrev In : Link → LinkState → Link
+abbrev pub In : Link → LinkState → Link
 In link state = record link { state = state }
 
-puts_up : (item : Frame × Weight) (link : Link) (sock : ℕ) (probed : Bool) (now : HostState) → link.state ≡ Up sock probed
+pub puts_up : (item : Frame × Weight) (link : Link) (sock : ℕ) (probed : Bool) (now : HostState) → link.state ≡ Up sock probed
     → puts_and_wants item link now ≡ Ok (frame_step sock item ∷ [], with_link (In link (Up sock probed)) (with_link (In link (Up sock probed)) now))
 unfolding step_of
 puts_up item link sock probed now up = ap (λ (k : LinkState). puts_and_wants item (In link k) now) up
@@ -59,13 +59,13 @@ puts_up item link sock probed now up = ap (λ (k : LinkState). puts_and_wants it
 abbrev pub More_waits : Frame × Weight → Link → LinkState → Link
 More_waits item link state = record link { state = state; waits = link.waits ++ item ∷ [] }
 
-puts_dialing : (item : Frame × Weight) (link : Link) (sock : ℕ) (now : HostState) → link.state ≡ Dialing sock
+pub puts_dialing : (item : Frame × Weight) (link : Link) (sock : ℕ) (now : HostState) → link.state ≡ Dialing sock
     → puts_and_wants item link now ≡ Ok ([], with_link (More_waits item link (Dialing sock)) (with_link (More_waits item link (Dialing sock)) now))
 unfolding step_of
 puts_dialing item link sock now is = ap (λ (k : LinkState). puts_and_wants item (In link k) now) is
     ∙ ap (λ (z : Link). host.after_steps [] (links.hears (inputs.Want (next_dial now)) z (with_link (More_waits item link (Dialing sock)) now))) (link_kept (More_waits item link (Dialing sock)) now)
 
-puts_awaiting : (item : Frame × Weight) (link : Link) (now : HostState) → link.state ≡ AwaitOther
+pub puts_awaiting : (item : Frame × Weight) (link : Link) (now : HostState) → link.state ≡ AwaitOther
     → puts_and_wants item link now ≡ Ok ([], with_link (More_waits item link AwaitOther) (with_link (More_waits item link AwaitOther) now))
 unfolding step_of
 puts_awaiting item link now is = ap (λ (k : LinkState). puts_and_wants item (In link k) now) is

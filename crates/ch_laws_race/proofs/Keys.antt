@@ -65,6 +65,22 @@ node_is a b h =
     ∙ ap (λ (z : ℕ). record a { host = b.host; port = z }) (eqb-true a.port b.port rest.0)
     ∙ ap (λ (z : ℕ). record b { id = z }) (eqb-true a.id b.id rest.1)
 
+other_key_found : (link : Link) (end : ℕ) (peer : AddressValue) → is_link end peer link ≡ false → (links : List Link) → find (is_link end peer) (store_link link links) ≡ find (is_link end peer) links
+other_key_found link end peer off [] = ap (λ b. cond b (Some link) None) off
+other_key_found link end peer off (known ∷ rest) = by_test (is_link link.end link.peer known) refl (other_key_found link end peer off rest) where
+  no_key : is_link link.end link.peer known ≡ true → is_link end peer known ≡ false
+  no_key h = let parts = and_parts (known.end == link.end) (same_node known.peer link.peer) h in
+      ap (λ (z : ℕ). (z == end) && same_node known.peer peer) (eqb-true known.end link.end parts.0) ∙ ap (λ (z : AddressValue). (link.end == end) && same_node z peer) (node_is known.peer link.peer parts.1) ∙ off
+
+  by_test : (x : Bool) → is_link link.end link.peer known ≡ x → find (is_link end peer) (store_link link rest) ≡ find (is_link end peer) rest
+      → find (is_link end peer) (cond x (link ∷ rest) (known ∷ store_link link rest)) ≡ find (is_link end peer) (known ∷ rest)
+  by_test true h later = ap (λ b. cond b (Some link) (find (is_link end peer) rest)) off ∙ sym (ap (λ b. cond b (Some known) (find (is_link end peer) rest)) (no_key h))
+  by_test false h later = ap (λ (z : Option Link). cond (is_link end peer known) (Some known) z) later
+
+-- a link of another key is found as before
+pub other_key : (link : Link) (host : HostState) (end : ℕ) (peer : AddressValue) → is_link end peer link ≡ false → link_with (with_link link host) end peer ≡ link_with host end peer
+other_key link host end peer off = ap (link_or_new end peer) (other_key_found link end peer off host.links)
+
 -- what is found has the key
 pub link_named : (host : HostState) (end : ℕ) (peer : AddressValue) → ((link_with host end peer).end ≡ end) × ((link_with host end peer).peer ≡ peer)
 link_named host end peer = named host.links where

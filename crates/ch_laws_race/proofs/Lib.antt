@@ -27,3 +27,6 @@ pub mod Calls
 pub mod Happens
 pub mod Same
 pub mod InTurn
+pub mod Others
+pub mod OtherLinks
+pub mod OtherReads

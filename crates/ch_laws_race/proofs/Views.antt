@@ -107,13 +107,13 @@ opened_still end other endpoint (known ∷ rest) found = by_own (is_endpoint end
       (ap (λ (n : ℕ). is_endpoint n known) (number_found end endpoint (known ∷ rest) found) ∙ is)
       ∙ ap (λ b. is_open_endpoint other known || b) (f h)
 
-arrival_ends : (end other : ℕ) (host : HostState) → is_shut other (with_arrival end host) ≡ is_shut other host
+pub arrival_ends : (end other : ℕ) (host : HostState) → is_shut other (with_arrival end host) ≡ is_shut other host
 arrival_ends end other host = by_found (find (is_endpoint end) host.ends) refl where
   by_found : (o : Option Endpoint) → find (is_endpoint end) host.ends ≡ o → is_shut other (elim o [ None ↦ host | Some endpoint ↦ with_endpoint (record endpoint { arrived = endpoint.arrived + 1 }) host ]) ≡ is_shut other host
   by_found None is = refl
   by_found (Some endpoint) is = ap not (opened_still end other endpoint host.ends is)
 
-arrival_links : (end number : ℕ) (peer : Address) (host : HostState) → link_with (with_arrival end host) number peer ≡ link_with host number peer
+pub arrival_links : (end number : ℕ) (peer : Address) (host : HostState) → link_with (with_arrival end host) number peer ≡ link_with host number peer
 arrival_links end number peer host = by_found (find (is_endpoint end) host.ends) where
   by_found : (o : Option Endpoint) → link_with (elim o [ None ↦ host | Some endpoint ↦ with_endpoint (record endpoint { arrived = endpoint.arrived + 1 }) host ]) number peer ≡ link_with host number peer
   by_found None = refl

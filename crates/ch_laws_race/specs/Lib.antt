@@ -12,3 +12,4 @@ pub mod Rows
 pub mod Calls
 pub mod Happenings
 pub mod Chains
+pub mod Others

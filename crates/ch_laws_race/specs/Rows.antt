@@ -168,6 +168,53 @@ half_probe = record (dialed_by Lesser Open Open) { o = record (end_as Lesser (So
 abbrev pub half_fed : Scene
 half_fed = record (up_with false []) { world = record (up_with false []).world { sockets = half_probe ∷ [] } }
 
+-- ---- a third node
+
+-- a node elsewhere, with which the lesser node has a link too
+abbrev pub third : Address
+third = record { host = 109 ∷ []; port = 1; id = 7 }
+
+abbrev pub link_to_third : LinkState → Link
+link_to_third state = record { end = 7; peer = third; state = state; waits = []; given = opened 0 ∷ []; created = [] }
+
+-- the host's record of the socket to it, with these bytes
+abbrev pub known_third : List ℕ → Socket
+known_third since = record { number = 2; peer_host = None; stage = Open; user = Some (7, third); expected = expected.Frame; since = since }
+
+-- the socket to it, of which the other end is a stranger's
+abbrev pub dial_third : WorldSocket
+dial_third = record {
+  name = record { from = name_at Lesser; to = 99 ∷ []; number = 0 };
+  from_host = (address_at Lesser).host;
+  o = end_as Lesser (Some 2) Open;
+  t = record { cell = None; number = None; stage = Open; unread = []; places = []; is_cut = false };
+}
+
+-- The two are up on the lesser node's dial, which is also up with the third, and has these bytes from it.
+abbrev pub three_with : List ℕ → Scene
+three_with since = scene_with
+    (host_with Lesser true (link_in Lesser (states.Up 0 false) [] ∷ link_to_third (states.Up 2 false) ∷ []) (known_as Lesser 0 Open (Some expected.Frame) [] ∷ known_third since ∷ []))
+    (host_with Greater true (link_in Greater (states.Up 1 false) [] ∷ []) (known_as Greater 1 Open (Some expected.Frame) [] ∷ []))
+    (dialed_by Lesser Open Open ∷ dial_third ∷ [])
+
+-- The same, where the third's host is in the world, and is up there.
+abbrev pub met_third : WorldSocket
+met_third = record dial_third { t = record { cell = Some 2; number = Some 1; stage = Open; unread = []; places = []; is_cut = false } }
+
+abbrev pub third_cell : Cell × ℕ
+third_cell = cell_with (record {
+  host = third.host;
+  port = 1;
+  circle = (104 ∷ []) ∷ (109 ∷ []) ∷ [];
+  ends = record { number = 7; is_open = true; arrived = 1 } ∷ [];
+  links = record { end = 7; peer = address_at Lesser; state = states.Up 1 false; waits = []; given = []; created = opened 0 ∷ [] } ∷ [];
+  sockets = record { number = 1; peer_host = Some (104 ∷ []); stage = Open; user = Some (7, address_at Lesser); expected = expected.Frame; since = [] } ∷ [];
+  dials = 0;
+})
+
+abbrev pub three_hosts : Scene
+three_hosts = record (three_with []) { world = record (three_with []).world { cells = cell_with (host_of (three_with []) Lesser) ∷ cell_with (host_of (three_with []) Greater) ∷ third_cell ∷ []; sockets = dialed_by Lesser Open Open ∷ met_third ∷ [] } }
+
 -- ---- two nodes on one host
 
 -- the addresses differ by the number of the endpoint

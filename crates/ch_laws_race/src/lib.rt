@@ -5,9 +5,9 @@
 //! after which no node is told anything and no whole item is left; that every line of a world is a run of moves is open.
 #![tactic(auto)]
 
-ghost use Rattle.std.specs.Prelude.{◌≡◌, ℕ, slice_get, Bool, true, false, List, [], ◌∷◌, length, Some, None};
+ghost use Rattle.std.specs.Prelude.{◌≡◌, ℕ, slice_get, Bool, true, false, List, [], ◌∷◌, length, find, Some, None, Ok};
 ghost use Rattle.ch_model.specs.declared.name.End.{End};
-ghost use Rattle.ch_model.specs.HostState.{Link, Socket};
+ghost use Rattle.ch_model.specs.HostState.{Link, Socket, HostState};
 ghost use Rattle.ch_model.specs.declared.step.Weight.{Weight};
 ghost use Rattle.ch_wire.specs.declared.frame.Frame.{Frame};
 ghost use Rattle.ch_model.specs.WorldState.{Cell, WorldSocket};
@@ -25,11 +25,17 @@ ghost use Rattle.ch_laws_race.specs.Calls.{PutsWaiting, puts_frame, IsOfLink, Co
 ghost use Rattle.ch_model.specs.HostCalls.{host_connect, host_send, host_close};
 ghost use Rattle.ch_laws_race.specs.Chains.{Calls, IsOfCalls, moves_of};
 ghost use Rattle.ch_laws_race.specs.Happenings.{IsAll, IsHappening, HandsSome, FeedsOne, AsksNothing};
+ghost use Rattle.ch_laws_race.specs.Others.{DoneElsewhere, IsUnseen, IsOtherLink, ReadsElsewhere, HearsThird};
+ghost use Rattle.ch_base.specs.declared.address.Address.{Address};
+ghost use Rattle.ch_model.specs.declared.step.Step.{Step};
+ghost use Rattle.ch_model.specs.HostSteps.{Stepped, link_with};
+ghost use Rattle.ch_model.specs.HostCalls.{carries};
+ghost use Rattle.ch_model.specs.Host.{front_of, handles};
 ghost use Rattle.ch_model.specs.declared.local.LocalEvent.{LocalEvent};
 ghost use Rattle.ch_model.specs.declared.local.LocalEvent.TheVariants as events;
 ghost use Rattle.ch_model.specs.declared.step.SocketEvent.TheVariants as sockets;
 ghost use Rattle.ch_model.specs.WorldHappenings.{cell_hears, joins, comes, feeds};
-ghost use Rattle.ch_laws_race.specs.Scene.{host_of, link_of};
+ghost use Rattle.ch_laws_race.specs.Scene.{hosts_of, host_of, link_of};
 ghost use Rattle.ch_race.specs.Moves.{Move, End_o, Read_o, Read_t, Say, Want, Join, Come};
 ghost use Rattle.ch_wire.specs.declared.answer.Answer.TheVariants as answers;
 ghost use Rattle.ch_wire.specs.declared.answer.Answer.TheVariants.{Crossed, Invalid};
@@ -41,7 +47,7 @@ ghost use Rattle.ch_link.specs.declared.LinkState.TheVariants.{Idle, Dialing, Up
 ghost use Rattle.ch_model.specs.declared.name.End.TheVariants.{O, T};
 ghost use Rattle.ch_model.specs.declared.step.Weight.TheVariants.{Free};
 ghost use Rattle.ch_model.specs.Stages.{Pending, Open, Ended};
-ghost use Rattle.ch_laws_race.specs.Rows.{up_with, dials_with, lesser_asked, greater_asked, left_with, stale, at_first, just_dialed, half_probe, half_fed, near_with, dial_near, known_near, request_of, known_as, dialed_by, dialing_by, cell_of};
+ghost use Rattle.ch_laws_race.specs.Rows.{up_with, dials_with, lesser_asked, greater_asked, left_with, stale, at_first, just_dialed, half_probe, half_fed, near_with, dial_near, known_near, request_of, known_as, dialed_by, dialing_by, cell_of, third, link_to_third, known_third, three_with, third_cell, three_hosts};
 
 /// A probe that is read on the socket that the link is up on is acknowledged there, at either end.
 pub fn probe_is_read()
@@ -222,6 +228,37 @@ pub fn node_alone()
         → IsHappening scene (cell_hears place event scene.world) [] }
 {}
 
+/// What a host does at sockets of others, of one of the two nodes or of none, shows nothing of them, where it keeps their links, their
+/// endpoints and its records of what is between them. At a host of one of them that is no move.
+pub fn others_are_unseen()
+    ensures anywhere { (scene : Scene) (place : ℕ) (cell : Cell × ℕ) (done : Stepped) → DoneElsewhere scene place cell done → IsUnseen scene place cell done }
+    ensures here { (scene : Scene) (x : Side) (cell : Cell × ℕ) (done : Stepped) → IsUnseen scene (scene.party x).place cell done → IsSeen scene x cell done [] }
+{}
+
+/// What an endpoint calls for another link than that of the two nodes shows nothing of them, whatever it does: a connection is
+/// opened, a payload sent, a connection closed, by another endpoint or for another peer, at a host of the two or at another.
+pub fn calls_of_others()
+    ensures connect { (scene : Scene) (place : ℕ) (cell : Cell × ℕ) (end : ℕ) (peer : Address) (conn : ℕ) (done : List Step × HostState) → IsOtherLink scene place cell (link_with (hosts_of scene.world place) end peer)
+        → host_connect (hosts_of scene.world place) end peer conn ≡ Ok done → IsUnseen scene place cell (Ok done) }
+    ensures send { (scene : Scene) (place : ℕ) (cell : Cell × ℕ) (end conn : ℕ) (payload : List ℕ) (weight : Weight) (link : Link) (done : List Step × HostState) → find (carries end conn) (hosts_of scene.world place).links ≡ Some link → IsOtherLink scene place cell link
+        → host_send (hosts_of scene.world place) end conn payload weight ≡ Ok done → IsUnseen scene place cell (Ok done) }
+    ensures close { (scene : Scene) (place : ℕ) (cell : Cell × ℕ) (end conn : ℕ) (link : Link) (done : List Step × HostState) → find (carries end conn) (hosts_of scene.world place).links ≡ Some link → IsOtherLink scene place cell link
+        → host_close (hosts_of scene.world place) end conn ≡ Ok done → IsUnseen scene place cell (Ok done) }
+{}
+
+/// An item, or a refusal, that is read on a socket that isn't between the two nodes shows nothing of them, whatever it is: at a
+/// host of the two or at another.
+pub fn item_of_others()
+    ensures { (scene : Scene) (place : ℕ) (cell : Cell × ℕ) (socket : Socket) (done : List Step × HostState) → ReadsElsewhere scene place cell socket
+        → handles socket (front_of socket) (hosts_of scene.world place) ≡ Ok done → IsUnseen scene place cell (Ok done) }
+{}
+
+/// Whatever a cell hears of which the host is a third one, neither of the two being there, and what follows, is seen as nothing.
+pub fn third_host()
+    ensures { (scene : Scene) (place : ℕ) (cell : Cell × ℕ) (event : LocalEvent) → HearsThird scene place cell event
+        → IsHappening scene (cell_hears place event scene.world) [] }
+{}
+
 /// An event of a cell in which its host is called again and again, with what nodes make of what they are told between, is seen as
 /// the moves of all calls: where each call, in the scene that those before it leave, is seen as its moves.
 pub fn calls_in_turn()
@@ -267,5 +304,10 @@ pub fn scenes()
     ensures alone { AsksNothing (cell_of Lesser at_first).0 (events.Make 7) }
     ensures calls { IsOfCalls (left_with (Up 0 false) expected.Frame) Lesser (cell_of Lesser (left_with (Up 0 false) expected.Frame)) (events.Socket (sockets.Ended 0)) ((input_ends (left_with (Up 0 false) expected.Frame) Lesser (known_as Lesser 0 Open (Some expected.Frame) []), End_o 0 ∷ []) ∷ []) }
     ensures item { FeedsOne half_fed Lesser (cell_of Lesser half_fed) O 0 4 half_probe (known_as Lesser 0 Open (Some expected.Frame) []) (Read_o 0 ∷ []) }
+    ensures other_up { IsOtherLink (three_with []) 0 (cell_of Lesser (three_with [])) (link_to_third (Up 2 false)) }
+    ensures other_idle { IsOtherLink at_first 0 (cell_of Lesser at_first) (link_with (host_of at_first Lesser) 7 third) }
+    ensures elsewhere { DoneElsewhere (three_with (frame_spelling frames.Probe)) 0 (cell_of Lesser (three_with (frame_spelling frames.Probe))) (reads_front (three_with (frame_spelling frames.Probe)) Lesser (known_third (frame_spelling frames.Probe))) }
+    ensures item_elsewhere { ReadsElsewhere (three_with (frame_spelling frames.Probe)) 0 (cell_of Lesser (three_with (frame_spelling frames.Probe))) (known_third (frame_spelling frames.Probe)) }
+    ensures third { HearsThird three_hosts 2 third_cell (events.Socket (sockets.Ended 1)) }
     ensures comes { Comes just_dialed Greater (cell_of Greater just_dialed) 0 (dialing_by Lesser Pending) }
 {}

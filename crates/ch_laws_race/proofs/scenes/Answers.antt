@@ -1,10 +1,10 @@
-use Rattle.std.specs.Prelude.{◌≡◌, ℕ, Bool, true, false, List, [], ◌∷◌, ◌++◌, find, Some, Ok, Err}
+use Rattle.std.specs.Prelude.{◌≡◌, ℕ, zero, suc, Bool, true, false, List, [], ◌∷◌, ◌++◌, find, nat_eq, slice_get, Some, Ok, Err}
 use Rattle.std.specs.List.{list_any}
 use Rattle.std.proofs.Common.{refl, ap, sym, ◌∙◌, subst, arith, inl, inr}
 use Rattle.std.proofs.lemmas.List.{append-nil}
 use Rattle.std.specs.Fmt.{digits}
 use Rattle.ch_wire.specs.declared.frame.Frame.TheVariants as frames
-use Rattle.ch_wire.specs.Spelling.{IsRequest}
+use Rattle.ch_wire.specs.Spelling.{IsRequest, frame_spelling}
 use Rattle.ch_reader.specs.declared.item.Expected.{Expected}
 use Rattle.ch_reader.specs.declared.item.Expected.TheVariants as expected
 use Rattle.ch_reader.specs.declared.item.Item.{Item}
@@ -13,22 +13,30 @@ use Rattle.ch_reader.specs.Items.{item_spelling, MayStand}
 use Rattle.ch_reader.specs.Streams.{IsStreamFrom}
 use Rattle.ch_light.specs.Ids.{conn_of, closed_of, created_of, id_of, give_of, close_of}
 use Rattle.ch_link.specs.Sockets.{names}
-use Rattle.ch_link.specs.declared.LinkState.TheVariants.{Up}
+use Rattle.ch_link.specs.declared.LinkState.TheVariants.{Idle, Up}
+use Rattle.ch_link.specs.declared.LinkState.{LinkState}
+use Rattle.std.proofs.lemmas.Bool.{eqb-true}
+use Rattle.ch_model.specs.Same.{is_between}
+use Rattle.ch_laws_race.specs.Others.{IsElsewhere, KeepsPair, IsFree, IsAway}
+use Rattle.ch_base.specs.declared.address.Address.{Address}
+use Rattle.ch_wire.specs.declared.request.Request.{Request}
+use Rattle.ch_reader.specs.declared.item.Front.{Front}
+use Rattle.ch_reader.specs.declared.item.Front.TheVariants.{Whole}
 use Rattle.ch_watch.specs.Same.{same_node}
 use Rattle.ch_model.specs.declared.name.End.{End}
-use Rattle.ch_model.specs.declared.name.End.TheVariants.{O}
+use Rattle.ch_model.specs.declared.name.End.TheVariants.{O, T}
 use Rattle.ch_model.specs.Stages.{Open, Ended}
 use Rattle.ch_model.specs.HostState.{Link, Socket, HostState}
 use Rattle.ch_model.specs.Host.{host_on, host_next}
-use Rattle.ch_model.specs.HostSteps.{Stepped, is_socket}
+use Rattle.ch_model.specs.HostSteps.{Stepped, is_socket, is_link, link_with}
 use Rattle.ch_model.specs.WorldState.{WorldSocket}
-use Rattle.ch_model.specs.WorldSockets.{end_of}
-use Rattle.ch_race.specs.Pair.{Side, Lesser, Greater}
+use Rattle.ch_model.specs.WorldSockets.{end_of, is_end_of, find_end}
+use Rattle.ch_race.specs.Pair.{Side, Lesser, Greater, other}
 use Rattle.ch_laws_race.specs.Scene.{Scene, nowhere, host_of, link_of}
 use Rattle.ch_laws_race.specs.View.{has_end}
 use Rattle.ch_laws_race.specs.Sound.{Acts, HasEnd}
 use Rattle.ch_laws_race.specs.Reading.{Reads, IsSeen, reads_front}
-use Rattle.ch_laws_race.specs.Rows.{all_apart, host_with, cell_with, scene_with, known_as, request_of, just_dialed, half_probe, half_fed, cell_of, left_with, dialed_by}
+use Rattle.ch_laws_race.specs.Rows.{all_apart, host_with, cell_with, scene_with, known_as, request_of, just_dialed, half_probe, half_fed, cell_of, left_with, dialed_by, the_party, at_first, link_to_third, known_third, dial_third, three_with, met_third, three_hosts, third}
 use Rattle.ch_laws_race.specs.Happenings.{fed_record, fed_cell, fed_scene}
 use Rattle.ch_laws_race.proofs.Read.{probe_read}
 use Rattle.ch_link.specs.Table.{step_of}
@@ -37,7 +45,7 @@ use Rattle.ch_laws_race.specs.Ends.{input_ends}
 use Rattle.ch_laws_race.specs.Chains.{unposted}
 use Rattle.ch_laws_race.proofs.Over.{ends_up}
 use Rattle.ch_model.specs.declared.step.Step.{Step}
-use Rattle.ch_laws_race.proofs.Sockets.{same_place}
+use Rattle.ch_laws_race.proofs.Sockets.{same_place, given, none}
 use Rattle.ch_laws_race.proofs.Socks.{nothing_left}
 use Rattle.ch_laws_race.proofs.Apart.{apart_by}
 use Rattle.ch_laws_race.proofs.scenes.Goals as goal
@@ -284,3 +292,122 @@ known_of Greater m h = wrong h
 pub returns-clause-comes : goal.returns-clause-comes
 unfolding same_node
 returns-clause-comes z = record { acts = greater_acts _ _ _ _ _ refl; at = refl; between = refl; opener = refl; cell_is = refl; unnumbered = refl; waiting = refl; new_number = refl; known = known_of }
+
+-- ---- a third node
+
+abbrev Probe_from_third : Scene
+Probe_from_third = three_with (frame_spelling frames.Probe)
+
+three_known : (since : List ℕ) (z : Side) (m : ℕ) → names (link_of (three_with since) z).state m ≡ true → list_any (has_end ((three_with since).party z).place m) (three_with since).world.sockets ≡ true
+unfolding same_node
+three_known since Lesser m h = subst (λ (n : ℕ). list_any (has_end 0 n) (three_with since).world.sockets ≡ true) (same_place 0 m h) refl
+three_known since Greater m h = subst (λ (n : ℕ). list_any (has_end 1 n) (three_with since).world.sockets ≡ true) (same_place 1 m h) refl
+
+third_key : (state : LinkState) (z : Side) → (the_party z).place ≡ 0 → is_link (the_party z).address.id (the_party (other z)).address (link_to_third state) ≡ false
+unfolding same_node
+third_key state Lesser q = refl
+third_key state Greater q = one_zero q
+
+-- a link's state is one
+up_is : (n m : ℕ) (a b : Bool) → Up n a ≡ Up m b → n ≡ m
+up_is n m a b h = ap {A = LinkState} {B = ℕ} (λ k. elim k [ Up u p ↦ u | _ ↦ 0 ]) h
+
+not_idle : {A : Type 0} (n : ℕ) (b : Bool) → Up n b ≡ Idle → A
+not_idle n b h = absurd (clash h) where
+  clash : Up n b ≡ Idle → ⊥
+  clash q = cc
+
+not_up : {A : Type 0} (n : ℕ) (b : Bool) → Idle ≡ Up n b → A
+not_up n b h = absurd (clash h) where
+  clash : Idle ≡ Up n b → ⊥
+  clash q = cc
+
+pub returns-clause-other_up : goal.returns-clause-other_up
+returns-clause-other_up z = record {
+  there = refl;
+  known = three_known [];
+  key = third_key (Up 2 false);
+  up = λ n probed h. subst (λ (m : ℕ). IsElsewhere the_party (find_end 0 m (three_with []).world.sockets)) (up_is 2 n false probed h) refl;
+  new_number = λ h. not_idle 2 false h;
+  new_name = λ h. not_idle 2 false h;
+}
+
+first_known : (z : Side) (m : ℕ) → names (link_of at_first z).state m ≡ true → list_any (has_end (the_party z).place m) at_first.world.sockets ≡ true
+unfolding same_node
+first_known Lesser m h = h
+first_known Greater m h = h
+
+pub returns-clause-other_idle : goal.returns-clause-other_idle
+unfolding same_node
+returns-clause-other_idle z = record {
+  there = refl;
+  known = first_known;
+  key = third_key Idle;
+  up = λ n probed h. not_up n probed h;
+  new_number = λ h. refl;
+  new_name = λ h. (refl, refl);
+}
+
+-- what the probe's reading leaves
+abbrev After_third : HostState
+After_third = record (host_of Probe_from_third Lesser) { sockets = known_as Lesser 0 Open (Some expected.Frame) [] ∷ known_third [] ∷ [] }
+
+third_records : (j : ℕ) (u : WorldSocket) → slice_get Probe_from_third.world.sockets j ≡ Some u → is_between (the_party Lesser).name (the_party Greater).name u.name ≡ true
+    → (e : End) (m : ℕ) → is_end_of 0 m (end_of e u) ≡ true → find (is_socket m) After_third.sockets ≡ find (is_socket m) (host_of Probe_from_third Lesser).sockets
+third_records zero u at own O m h = subst (λ (n : ℕ). find (is_socket n) After_third.sockets ≡ find (is_socket n) (host_of Probe_from_third Lesser).sockets)
+    (eqb-true 0 m (ap (is_end_of 0 m) (ap (λ (z : WorldSocket). z.o) (given (dialed_by Lesser Open Open) u at)) ∙ h)) refl
+third_records zero u at own T m h = wrong (ap (is_end_of 0 m) (ap (λ (z : WorldSocket). z.t) (given (dialed_by Lesser Open Open) u at)) ∙ h)
+third_records (suc zero) u at own e m h = wrong (ap (λ (z : WorldSocket). is_between (the_party Lesser).name (the_party Greater).name z.name) (given dial_third u at) ∙ own)
+third_records (suc (suc j)) u at own e m h = none u at
+
+third_keeps : KeepsPair Probe_from_third 0 After_third
+unfolding same_node
+third_keeps = record { link = λ z q. refl; ends = λ z q. refl; records = third_records }
+
+pub returns-clause-elsewhere : goal.returns-clause-elsewhere
+unfolding host_next digits same_node step_of
+returns-clause-elsewhere z = record { there = refl; known = three_known (frame_spelling frames.Probe); steps = _; host = After_third; does = refl; elsewhere = (refl, (refl, tt)); keeps = third_keeps }
+
+hosts_known : (z : Side) (m : ℕ) → names (link_of three_hosts z).state m ≡ true → list_any (has_end (the_party z).place m) three_hosts.world.sockets ≡ true
+unfolding same_node
+hosts_known Lesser m h = subst (λ (n : ℕ). list_any (has_end 0 n) three_hosts.world.sockets ≡ true) (same_place 0 m h) refl
+hosts_known Greater m h = subst (λ (n : ℕ). list_any (has_end 1 n) three_hosts.world.sockets ≡ true) (same_place 1 m h) refl
+
+away_from : (z : Side) → nat_eq (the_party z).place 2 ≡ false
+away_from Lesser = refl
+away_from Greater = refl
+
+third_free : (j : ℕ) (u : WorldSocket) → slice_get three_hosts.world.sockets j ≡ Some u → is_between (the_party Lesser).name (the_party Greater).name u.name ≡ true → (e : End) (m : ℕ) → is_end_of 2 m (end_of e u) ≡ false
+third_free zero u at own O m = ap (λ (z : WorldSocket). is_end_of 2 m z.o) (sym (given (dialed_by Lesser Open Open) u at))
+third_free zero u at own T m = ap (λ (z : WorldSocket). is_end_of 2 m z.t) (sym (given (dialed_by Lesser Open Open) u at))
+third_free (suc zero) u at own e m = wrong (ap (λ (z : WorldSocket). is_between (the_party Lesser).name (the_party Greater).name z.name) (given met_third u at) ∙ own)
+third_free (suc (suc j)) u at own e m = none u at
+
+pub returns-clause-third : goal.returns-clause-third
+unfolding host_on host_next same_node step_of
+returns-clause-third z = record { there = refl; known = hosts_known; away = away_from; free = third_free; verdict = _; told = _; after = _; does = refl; dials = (tt, (tt, tt)) }
+
+two_free : (j : ℕ) (u : WorldSocket) → slice_get Probe_from_third.world.sockets j ≡ Some u → is_between (the_party Lesser).name (the_party Greater).name u.name ≡ true → (e : End) → is_end_of 0 2 (end_of e u) ≡ false
+two_free zero u at own O = ap (λ (z : WorldSocket). is_end_of 0 2 z.o) (sym (given (dialed_by Lesser Open Open) u at))
+two_free zero u at own T = ap (λ (z : WorldSocket). is_end_of 0 2 z.t) (sym (given (dialed_by Lesser Open Open) u at))
+two_free (suc zero) u at own e = wrong (ap (λ (z : WorldSocket). is_between (the_party Lesser).name (the_party Greater).name z.name) (given dial_third u at) ∙ own)
+two_free (suc (suc j)) u at own e = none u at
+
+no_request : {A : Type 0} (r : Request) → ◌≡◌ {A = Front} (Whole (items.Frame frames.Probe)) (Whole (items.Request r)) → A
+no_request r h = absurd (clash h) where
+  clash : ◌≡◌ {A = Front} (Whole (items.Frame frames.Probe)) (Whole (items.Request r)) → ⊥
+  clash q = cc
+
+third_away : IsAway Probe_from_third 0 (link_with (host_of Probe_from_third Lesser) 7 third)
+unfolding same_node
+third_away = record { key = third_key (Up 2 false); named = λ m h. subst (λ (n : ℕ). IsFree Probe_from_third 0 n) (same_place 2 m h) two_free }
+
+pub returns-clause-item_elsewhere : goal.returns-clause-item_elsewhere
+unfolding digits
+returns-clause-item_elsewhere z = record {
+  there = refl;
+  known = three_known (frame_spelling frames.Probe);
+  free = two_free;
+  user = λ end peer h. subst (λ (u : ℕ × Address). IsAway Probe_from_third 0 (link_with (host_of Probe_from_third Lesser) u.0 u.1)) (given (7, third) (end, peer) h) third_away;
+  request = λ r h. no_request r h;
+}
