@@ -1,6 +1,6 @@
 -- A line by which a process sends while the link is up is the passage's move: its frame's bytes come behind what is unread at the
 -- receiving node's end.
-use Rattle.std.specs.Prelude.{◌≡◌, ℕ, Bool, true, false, cond, ◌&&◌, ◌||◌, ◌==◌, nat_eq, List, [], ◌∷◌, ◌++◌, map, find, slice_get, Option, Some, None, if◌then◌else◌}
+use Rattle.std.specs.Prelude.{◌≡◌, ◌<◌, ℕ, ◌+◌, ◌-◌, Bool, true, false, cond, ◌&&◌, ◌||◌, ◌==◌, nat_eq, List, [], ◌∷◌, ◌++◌, map, length, find, slice_get, nat_lt, Option, Some, None, if◌then◌else◌}
 use Rattle.std.specs.List.{flat_map}
 use Rattle.std.specs.Str.{bytes_eq}
 use Rattle.std.proofs.Common.{refl, ap, sym, ◌∙◌, subst, arith}
@@ -12,6 +12,7 @@ use Rattle.std.proofs.lemmas.Option.{slice_get_within}
 use Rattle.std.proofs.lemmas.Slice.Eq.{bytes_eq-Decides}
 use Rattle.ch_ident.specs.declared.message.Message.{Message}
 use Rattle.ch_light.proofs.Lists.{set_here, set_other}
+use Rattle.ch_light.specs.declared.TheConstants.{FIRST_ID}
 use Rattle.ch_wire.specs.Spelling.{frame_spelling}
 use Rattle.ch_wire.specs.declared.frame.Frame.{Frame}
 use Rattle.ch_model.specs.declared.entry.Entry.{Entry}
@@ -38,7 +39,8 @@ use Rattle.ch_model.specs.WorldHappenings.{with_cell, cell_told}
 use Rattle.ch_delivery.specs.Passage.{Item}
 use Rattle.ch_delivery.specs.Moves.{put, onto}
 use Rattle.ch_laws_delivery.specs.Scene.{Name, Use, Scene}
-use Rattle.ch_laws_delivery.specs.Sending.{pair_at, items_in, items_of}
+use Rattle.ch_laws_delivery.specs.Sending.{pair_at, flat, use_at, items_in, items_of}
+use Rattle.ch_laws_delivery.specs.FirstSends.{IsGiven, AreGiven}
 use Rattle.ch_laws_delivery.specs.UpSends.{SaysUp, frame_of, written_in}
 use Rattle.ch_laws_delivery.specs.View as views
 use Rattle.ch_laws_delivery.specs.Cells.{Sends, cell_with}
@@ -49,7 +51,7 @@ use Rattle.ch_laws_delivery.proofs.Worlds.{line_is}
 
 -- ---- names of sockets
 
-wrong : {A : Type 0} → false ≡ true → A
+pub wrong : {A : Type 0} → false ≡ true → A
 wrong h = absurd (clash h) where
   clash : false ≡ true → ⊥
   clash h = cc
@@ -65,14 +67,14 @@ same_name a b h =
 name_self : (a : SockName) → same_socket a a ≡ true
 name_self a = ap (λ b. (b && bytes_eq a.to a.to) && (a.number == a.number)) ((bytes_eq-Decides a.from a.from).1 refl) ∙ ap (λ b. b && (a.number == a.number)) ((bytes_eq-Decides a.to a.to).1 refl) ∙ eq-eqb a.number a.number refl
 
-other_name : (name : SockName) (socket : WorldSocket) → (socket.name ≡ name → ⊥) → is_socket_named name socket ≡ false
+pub other_name : (name : SockName) (socket : WorldSocket) → (socket.name ≡ name → ⊥) → is_socket_named name socket ≡ false
 other_name name socket off = by_test (is_socket_named name socket) refl where
   by_test : (b : Bool) → is_socket_named name socket ≡ b → b ≡ false
   by_test false is = refl
   by_test true is = absurd (off (same_name socket.name name is))
 
 -- what is found has the name
-found_name : (name : SockName) (known : List WorldSocket) (socket : WorldSocket) → find (is_socket_named name) known ≡ Some socket → socket.name ≡ name
+pub found_name : (name : SockName) (known : List WorldSocket) (socket : WorldSocket) → find (is_socket_named name) known ≡ Some socket → socket.name ≡ name
 found_name name [] socket h = absurd (clash h) where
   clash : ◌≡◌ {A = Option WorldSocket} None (Some socket) → ⊥
   clash e = cc
@@ -87,14 +89,14 @@ found_name name (first ∷ rest) socket h = by_test (is_socket_named name first)
 -- ---- a socket that is kept
 
 module _ (socket : WorldSocket) where
-  stored_found : (known : List WorldSocket) → find (is_socket_named socket.name) (store_in socket known) ≡ Some socket
+  pub stored_found : (known : List WorldSocket) → find (is_socket_named socket.name) (store_in socket known) ≡ Some socket
   stored_found [] = ap (λ b. cond b (Some socket) None) (name_self socket.name)
   stored_found (first ∷ rest) = by_test (is_socket_named socket.name first) refl (stored_found rest) where
     by_test : (b : Bool) → is_socket_named socket.name first ≡ b → find (is_socket_named socket.name) (store_in socket rest) ≡ Some socket → find (is_socket_named socket.name) (if b then socket ∷ rest else first ∷ store_in socket rest) ≡ Some socket
     by_test true is f = ap (λ b. cond b (Some socket) (find (is_socket_named socket.name) rest)) (name_self socket.name)
     by_test false is f = ap (λ b. cond b (Some first) (find (is_socket_named socket.name) (store_in socket rest))) is ∙ f
 
-  stored_other : (name : SockName) → is_socket_named name socket ≡ false → (known : List WorldSocket) → find (is_socket_named name) (store_in socket known) ≡ find (is_socket_named name) known
+  pub stored_other : (name : SockName) → is_socket_named name socket ≡ false → (known : List WorldSocket) → find (is_socket_named name) (store_in socket known) ≡ find (is_socket_named name) known
   stored_other name off [] = ap (λ b. cond b (Some socket) None) off
   stored_other name off (first ∷ rest) = by_test (is_socket_named socket.name first) refl (stored_other name off rest) where
     by_test : (b : Bool) → is_socket_named socket.name first ≡ b → find (is_socket_named name) (store_in socket rest) ≡ find (is_socket_named name) rest
@@ -103,7 +105,7 @@ module _ (socket : WorldSocket) where
         ∙ sym (ap (λ b. cond b (Some first) (find (is_socket_named name) rest)) (ap (λ (z : SockName). same_socket z name) (same_name first.name socket.name is) ∙ off))
     by_test false is f = ap (cond (is_socket_named name first) (Some first)) f
 
-  stored_end : (cell number : ℕ) (before : WorldSocket) → end_at cell number socket ≡ end_at cell number before → (known : List WorldSocket) → find (is_socket_named socket.name) known ≡ Some before → find_end cell number (store_in socket known) ≡ find_end cell number known
+  pub stored_end : (cell number : ℕ) (before : WorldSocket) → end_at cell number socket ≡ end_at cell number before → (known : List WorldSocket) → find (is_socket_named socket.name) known ≡ Some before → find_end cell number (store_in socket known) ≡ find_end cell number known
   stored_end cell number before same [] h = absurd (clash h) where
     clash : ◌≡◌ {A = Option WorldSocket} None (Some before) → ⊥
     clash e = cc
@@ -121,14 +123,14 @@ module _ (socket : WorldSocket) where
 
 module _ (bytes : List ℕ) (said : Option Place) where
   -- the socket with the item at this end
-  abbrev Changed : End → WorldSocket → WorldSocket
+  abbrev pub Changed : End → WorldSocket → WorldSocket
   Changed end socket = with_end end (item_arrives bytes said (end_of end socket)) socket
 
-  name_kept : (end : End) (socket : WorldSocket) → (Changed end socket).name ≡ socket.name
+  pub name_kept : (end : End) (socket : WorldSocket) → (Changed end socket).name ≡ socket.name
   name_kept O socket = refl
   name_kept T socket = refl
 
-  end_kept : (end : End) (socket : WorldSocket) → end_of end (Changed end socket) ≡ item_arrives bytes said (end_of end socket)
+  pub end_kept : (end : End) (socket : WorldSocket) → end_of end (Changed end socket) ≡ item_arrives bytes said (end_of end socket)
   end_kept O socket = refl
   end_kept T socket = refl
 
@@ -138,7 +140,7 @@ module _ (bytes : List ℕ) (said : Option Place) where
     by_over true = refl
     by_over false = refl
 
-  at_kept : (cell number : ℕ) (end : End) (socket : WorldSocket) → end_at cell number (Changed end socket) ≡ end_at cell number socket
+  pub at_kept : (cell number : ℕ) (end : End) (socket : WorldSocket) → end_at cell number (Changed end socket) ≡ end_at cell number socket
   at_kept cell number O socket = ap (λ b. if b then Some O else (if is_end_of cell number socket.t then Some T else None)) (is_end_kept cell number socket.o)
   at_kept cell number T socket = ap (λ b. if is_end_of cell number socket.o then Some O else (if b then Some T else None)) (is_end_kept cell number socket.t)
 
@@ -146,10 +148,34 @@ map_more : {X Y : Type 0} (f : X → Y) (xs : List X) (x : X) → map f xs ++ f 
 map_more f [] x = refl
 map_more {Y = Y} f (y ∷ rest) x = ap (λ (z : List Y). f y ∷ z) (map_more f rest x)
 
+-- ids that were given, with one frame more
+given_more : (uses : List (Option Use)) (known : List (Frame × Weight)) (item : Frame × Weight) → AreGiven uses known → IsGiven uses item.0 → AreGiven uses (known ++ item ∷ [])
+given_more uses [] item h g = (g, tt)
+given_more uses (first ∷ rest) item h g = (h.0, given_more uses rest item h.1 g)
+
+-- an id that is for something was given
+used_given : (uses : List (Option Use)) (id : ℕ) (u : Use) → use_at uses id ≡ Some u → id < FIRST_ID + length uses
+used_given uses id u h = by_test (nat_lt id FIRST_ID) refl h where
+  none : {A : Type 0} → ◌≡◌ {A = Option Use} None (Some u) → A
+  none q = absurd (clash q) where
+    clash : ◌≡◌ {A = Option Use} None (Some u) → ⊥
+    clash e = cc
+
+  within : (a n id : ℕ) → nat_lt id a ≡ false → id - a < n → id < a + n
+  within a n id off h = grind (arith, nat_tests)
+
+  by_slot : (o : Option (Option Use)) → slice_get uses (id - FIRST_ID) ≡ o → flat o ≡ Some u → id - FIRST_ID < length uses
+  by_slot None is q = none q
+  by_slot (Some one) is q = slice_get_within uses (id - FIRST_ID) one is
+
+  by_test : (b : Bool) → nat_lt id FIRST_ID ≡ b → (if b then None else flat (slice_get uses (id - FIRST_ID))) ≡ Some u → id < FIRST_ID + length uses
+  by_test true is q = none q
+  by_test false is q = within FIRST_ID (length uses) id is (by_slot (slice_get uses (id - FIRST_ID)) refl q)
+
 -- what comes there, with one frame more
-comes_more : (host : HostState) (uses : List (Option Use)) (end : WorldEnd) (word : List Item) (cut : Bool) (item : Frame × Weight) → Comes host uses end word cut
+pub comes_more : (host : HostState) (uses : List (Option Use)) (end : WorldEnd) (word : List Item) (cut : Bool) (item : Frame × Weight) → IsGiven uses item.0 → Comes host uses end word cut
     → Comes host uses (item_arrives (frame_spelling item.0) (said_of item.1) end) (onto cut word (items_of uses (item ∷ []))) cut
-comes_more host uses end word cut item h = subst (λ (b : Bool). Comes host uses (if b then end else more) (onto cut word (items_of uses (item ∷ []))) cut) (sym h.over) (by_cut cut h) where
+comes_more host uses end word cut item given h = subst (λ (b : Bool). Comes host uses (if b then end else more) (onto cut word (items_of uses (item ∷ []))) cut) (sym h.over) (by_cut cut h) where
   more : WorldEnd
   more = record end { unread = end.unread ++ frame_spelling item.0; places = end.places ++ said_of item.1 ∷ [] }
 
@@ -160,6 +186,7 @@ comes_more host uses end word cut item h = subst (λ (b : Bool). Comes host uses
     gone = λ q. wrong q;
     answer = h.answer;
     written = h.written ++ item ∷ [];
+    given = given_more uses h.written item h.given given;
     bytes = λ q. sym (append_assoc (since_of end.number host) end.unread (frame_spelling item.0)) ∙ ap (λ (z : List ℕ). z ++ frame_spelling item.0) (h.bytes refl)
         ∙ append_assoc (answer_bytes h.answer) (flat_map (λ x. frame_spelling x.0) h.written) (frame_spelling item.0)
         ∙ ap (λ (z : List ℕ). answer_bytes h.answer ++ (flat_map (λ x. frame_spelling x.0) h.written ++ z)) (sym (append-nil (frame_spelling item.0)))
@@ -183,7 +210,7 @@ other_twice : (end : End) → other (other end) ≡ end
 other_twice O = refl
 other_twice T = refl
 
-write_now : (world : World) (place sock : ℕ) (cell : Cell) (name : SockName) (toward : End) (bytes : List ℕ) (said : Option Place) (socket : WorldSocket) → find_end place sock world.sockets ≡ Some (name, other toward)
+pub write_now : (world : World) (place sock : ℕ) (cell : Cell) (name : SockName) (toward : End) (bytes : List ℕ) (said : Option Place) (socket : WorldSocket) → find_end place sock world.sockets ≡ Some (name, other toward)
     → find (is_socket_named name) world.sockets ≡ Some socket → (stepped place cell (steps.Write sock bytes said) world).1 ≡ with_socket (Changed bytes said toward socket) world
 write_now world place sock cell name toward bytes said socket at found =
     ap (λ (o : Option (SockName × End)). (of_end (λ at now. (entries.Wrote at.0 at.1 bytes ∷ [], with_end_of at.0 (other at.1) (item_arrives bytes said) now)) world o).1) at
@@ -192,12 +219,12 @@ write_now world place sock cell name toward bytes said socket at found =
 
 -- ---- the scene
 
-same_number : (i j : ℕ) → nat_eq i j ≡ true → i ≡ j
+pub same_number : (i j : ℕ) → nat_eq i j ≡ true → i ≡ j
 same_number i j h = grind (arith, nat_tests)
 
 -- the way, where one frame more has come on the leg that the sending node is up on
 module _ (world now : World) (from to : ℕ) (legs : ℕ → Option Leg) (scene : Scene) (s : IsSceneOf world from to legs scene) (apart : AreSocketsApart legs) (item : Frame × Weight) (leg : Leg) (is : legs scene.way.on ≡ Some leg)
-    (uses : leg.uses ≡ scene.given) (c : Carries world scene.to.host leg (scene.way.flight scene.way.on) (scene.way.cut scene.way.on))
+    (uses : leg.uses ≡ scene.given) (given : IsGiven scene.given item.0) (c : Carries world scene.to.host leg (scene.way.flight scene.way.on) (scene.way.cut scene.way.on))
     (sockets : now.sockets ≡ store_in (Changed (frame_spelling item.0) (said_of item.1) leg.toward c.socket) world.sockets) where
   abbrev After : WorldSocket
   After = Changed (frame_spelling item.0) (said_of item.1) leg.toward c.socket
@@ -219,7 +246,7 @@ module _ (world now : World) (from to : ℕ) (legs : ℕ → Option Leg) (scene 
     comes = subst (λ (end : WorldEnd). Comes scene.to.host leg.uses end (onto (scene.way.cut scene.way.on) (scene.way.flight scene.way.on) (items_of scene.given (item ∷ []))) (scene.way.cut scene.way.on))
         (sym (end_kept (frame_spelling item.0) (said_of item.1) leg.toward c.socket))
         (subst (λ (given : List (Option Use)). Comes scene.to.host leg.uses (item_arrives (frame_spelling item.0) (said_of item.1) (end_of leg.toward c.socket)) (onto (scene.way.cut scene.way.on) (scene.way.flight scene.way.on) (items_of given (item ∷ []))) (scene.way.cut scene.way.on)) uses
-        (comes_more scene.to.host leg.uses (end_of leg.toward c.socket) (scene.way.flight scene.way.on) (scene.way.cut scene.way.on) item c.comes));
+        (comes_more scene.to.host leg.uses (end_of leg.toward c.socket) (scene.way.flight scene.way.on) (scene.way.cut scene.way.on) item (subst (λ (z : List (Option Use)). IsGiven z item.0) (sym uses) given) c.comes));
   }
 
   -- every other
@@ -280,6 +307,7 @@ module _ (names : List Name) (named_apart : views.AreApart names) (world : World
       let written = write_now Said from sock Then leg.socket leg.toward (frame_spelling (frame_of id P said).0) (said_of (frame_of id P said).1) carried.socket on.0 carried.found in
       let sockets = ap (λ (w : World). w.sockets) written in
       let cells = ap (λ (w : World). w.cells) written in
+      let given = used_given scene.given id (record { pair = c; epoch = P.epoch }) h.used in
       record {
         sender = record {
           cell = Then;
@@ -290,10 +318,10 @@ module _ (names : List Name) (named_apart : views.AreApart names) (world : World
         receiver = record { cell = s.receiver.cell; came = s.receiver.came; there = ap (λ z. slice_get z to) cells ∙ set_other world.cells from (Then, s.sender.came) to (λ e. s.apart (sym e)) ∙ s.receiver.there; at = s.receiver.at };
         apart = s.apart;
         way = record {
-          carries = λ i. all_now world Now from to legs scene s apart (frame_of id P said) leg is on.1 carried sockets i;
-          on = λ other_sock other_probed up. is_on_now world Now from to legs scene s apart (frame_of id P said) leg is on.1 carried sockets from other_sock (legs scene.way.on) scene.given
+          carries = λ i. all_now world Now from to legs scene s apart (frame_of id P said) leg is on.1 given carried sockets i;
+          on = λ other_sock other_probed up. is_on_now world Now from to legs scene s apart (frame_of id P said) leg is on.1 given carried sockets from other_sock (legs scene.way.on) scene.given
               (s.way.on other_sock other_probed (sym (ap (λ (z : Link). z.state) sent.link) ∙ up));
-          at = λ other_sock other_probed up. is_read_now world Now from to legs scene s apart (frame_of id P said) leg is on.1 carried sockets to other_sock (legs scene.way.at) scene.created (s.way.at other_sock other_probed up);
+          at = λ other_sock other_probed up. is_read_now world Now from to legs scene s apart (frame_of id P said) leg is on.1 given carried sockets to other_sock (legs scene.way.at) scene.created (s.way.at other_sock other_probed up);
         };
       }
 

@@ -29,3 +29,4 @@ pub mod Worlds
 pub mod WorldRows
 pub mod QuietLines
 pub mod UpLines
+pub mod UpFirstLines
