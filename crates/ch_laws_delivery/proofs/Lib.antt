@@ -38,4 +38,5 @@ pub mod UpCells
 pub mod UpWorlds
 pub mod UpFirstCells
 pub mod UpFirstWorlds
+pub mod AgainWorlds
 pub mod Names

@@ -13,6 +13,7 @@ use Rattle.std.proofs.lemmas.Slice.Eq.{bytes_eq-Decides}
 use Rattle.ch_ident.specs.declared.message.Message.{Message}
 use Rattle.ch_light.proofs.Lists.{set_here, set_other}
 use Rattle.ch_light.specs.declared.TheConstants.{FIRST_ID}
+use Rattle.ch_link.specs.declared.LinkState.TheVariants.{Up}
 use Rattle.ch_wire.specs.Spelling.{frame_spelling}
 use Rattle.ch_wire.specs.declared.frame.Frame.{Frame}
 use Rattle.ch_model.specs.declared.entry.Entry.{Entry}
@@ -28,24 +29,26 @@ use Rattle.ch_model.specs.declared.step.Weight.{Weight}
 use Rattle.ch_model.specs.Same.{same_socket}
 use Rattle.ch_model.specs.Stages.{is_ended}
 use Rattle.ch_model.specs.HostState.{Link, HostState}
-use Rattle.ch_model.specs.HostWrites.{said_of}
-use Rattle.ch_model.specs.NodeState.{Pair}
+use Rattle.ch_model.specs.HostSteps.{link_with}
+use Rattle.ch_model.specs.HostWrites.{said_of, frame_step}
+use Rattle.ch_model.specs.NodeState.{NodeState, Pair}
 use Rattle.ch_model.specs.NodePairs.{keeping}
 use Rattle.ch_model.specs.NodeSends.{with_said}
 use Rattle.ch_model.specs.WorldState.{Cell, WorldEnd, WorldSocket, World}
 use Rattle.ch_model.specs.WorldSockets.{end_of, other, with_end, item_arrives, is_socket_named, store_in, with_socket, with_end_of, is_end_of, end_at, find_end}
 use Rattle.ch_model.specs.WorldSteps.{stepped}
 use Rattle.ch_model.specs.WorldHappenings.{with_cell, cell_told}
+use Rattle.ch_delivery.specs.Passage as passages
 use Rattle.ch_delivery.specs.Passage.{Item}
 use Rattle.ch_delivery.specs.Moves.{put, onto}
-use Rattle.ch_laws_delivery.specs.Scene.{Name, Use, Scene}
+use Rattle.ch_laws_delivery.specs.Scene.{Name, Use, Scene, link_of}
 use Rattle.ch_laws_delivery.specs.Sending.{pair_at, flat, use_at, items_in, items_of}
 use Rattle.ch_laws_delivery.specs.FirstSends.{IsGiven, AreGiven}
-use Rattle.ch_laws_delivery.specs.UpSends.{SaysUp, frame_of, written_in}
+use Rattle.ch_laws_delivery.specs.UpSends.{SaysUp, sent, frame_of}
 use Rattle.ch_laws_delivery.specs.View as views
-use Rattle.ch_laws_delivery.specs.Cells.{Sends, cell_with}
+use Rattle.ch_laws_delivery.specs.Cells.{IsAt, Sends, cell_with}
 use Rattle.ch_laws_delivery.specs.Worlds.{Leg, since_of, answer_bytes, answer_places, Comes, Carries, OnLeg, IsOn, IsReadAt, IsSceneOf, IsLineOf}
-use Rattle.ch_laws_delivery.specs.UpLines.{IsWrittenAt, AreSocketsApart, wrote_in, IsWrittenIn}
+use Rattle.ch_laws_delivery.specs.UpLines.{IsWrittenAt, AreSocketsApart, IsWrittenIn}
 use Rattle.ch_laws_delivery.proofs.UpCells.{is_written_at}
 use Rattle.ch_laws_delivery.proofs.Worlds.{line_is}
 
@@ -154,7 +157,7 @@ given_more uses [] item h g = (g, tt)
 given_more uses (first ∷ rest) item h g = (h.0, given_more uses rest item h.1 g)
 
 -- an id that is for something was given
-used_given : (uses : List (Option Use)) (id : ℕ) (u : Use) → use_at uses id ≡ Some u → id < FIRST_ID + length uses
+pub used_given : (uses : List (Option Use)) (id : ℕ) (u : Use) → use_at uses id ≡ Some u → id < FIRST_ID + length uses
 used_given uses id u h = by_test (nat_lt id FIRST_ID) refl h where
   none : {A : Type 0} → ◌≡◌ {A = Option Use} None (Some u) → A
   none q = absurd (clash q) where
@@ -278,6 +281,49 @@ module _ (world now : World) (from to : ℕ) (legs : ℕ → Option Leg) (scene 
   is_read_now place sock None created h = h
   is_read_now place sock (Some l) created h = (ends_now place sock ∙ h.0, h.1)
 
+-- the scene after one frame is written there by the sending node, whose cell is this after it, with the link in the same state
+module _ (world : World) (from to : ℕ) (legs : ℕ → Option Leg) (scene : Scene) (s : IsSceneOf world from to legs scene) (apart : AreSocketsApart legs) (node : NodeState) (host : HostState) (cell : Cell)
+    (at : IsAt (record (scene.from) { node = node; host = host }) cell) (state : (link_with host scene.from.end scene.from.peer).state ≡ (link_of scene.from).state) (sock : ℕ) (probed : Bool) (up : (link_of scene.from).state ≡ Up sock probed)
+    (last : Option Place) (item : Frame × Weight) (given : IsGiven scene.given item.0) (log : List passages.Entry) where
+  -- the world with the cell
+  abbrev pub Before : World
+  Before = record (with_cell from (cell, s.sender.came) world) { last = last }
+
+  abbrev pub Wrote : World
+  Wrote = (stepped from cell (frame_step sock item) Before).1
+
+  abbrev pub Later : Scene
+  Later = record scene { from = record (scene.from) { node = node; host = host }; way = sent scene.given (item ∷ []) scene.way; log = log }
+
+  by_leg : (leg : Leg) → legs scene.way.on ≡ Some leg → (find_end from sock world.sockets ≡ Some (leg.socket, other leg.toward)) × (leg.uses ≡ scene.given)
+      → Carries world scene.to.host leg (scene.way.flight scene.way.on) (scene.way.cut scene.way.on) → IsSceneOf Wrote from to legs Later
+  by_leg leg is on carried =
+      let written = write_now Before from sock cell leg.socket leg.toward (frame_spelling item.0) (said_of item.1) carried.socket on.0 carried.found in
+      let sockets = ap (λ (w : World). w.sockets) written in
+      let cells = ap (λ (w : World). w.cells) written in
+      record {
+        sender = record {
+          cell = cell;
+          came = s.sender.came;
+          there = ap (λ z. slice_get z from) cells ∙ set_here world.cells from (cell, s.sender.came) (slice_get_within world.cells from (s.sender.cell, s.sender.came) s.sender.there);
+          at = at;
+        };
+        receiver = record { cell = s.receiver.cell; came = s.receiver.came; there = ap (λ z. slice_get z to) cells ∙ set_other world.cells from (cell, s.sender.came) to (λ e. s.apart (sym e)) ∙ s.receiver.there; at = s.receiver.at };
+        apart = s.apart;
+        way = record {
+          carries = λ i. all_now world Wrote from to legs scene s apart item leg is on.1 given carried sockets i;
+          on = λ other_sock other_probed other_up. is_on_now world Wrote from to legs scene s apart item leg is on.1 given carried sockets from other_sock (legs scene.way.on) scene.given (s.way.on other_sock other_probed (sym state ∙ other_up));
+          at = λ other_sock other_probed other_up. is_read_now world Wrote from to legs scene s apart item leg is on.1 given carried sockets to other_sock (legs scene.way.at) scene.created (s.way.at other_sock other_probed other_up);
+        };
+      }
+
+  by_way : (o : Option Leg) → legs scene.way.on ≡ o → IsOn world from sock o scene.given → OnLeg world scene.to.host o (scene.way.flight scene.way.on) (scene.way.cut scene.way.on) → IsSceneOf Wrote from to legs Later
+  by_way None is on carried = absurd on
+  by_way (Some leg) is on carried = by_leg leg is on carried
+
+  pub scene_written : IsSceneOf Wrote from to legs Later
+  scene_written = by_way (legs scene.way.on) refl (s.way.on sock probed up) (s.way.carries scene.way.on)
+
 -- ---- the line
 
 module _ (names : List Name) (named_apart : views.AreApart names) (world : World) (from to : ℕ) (legs : ℕ → Option Leg) (scene : Scene) (c : ℕ) (name : Name) (conn id sock : ℕ) (probed : Bool) (said : Message) (by : ProcName) (target : TargetName)
@@ -285,56 +331,19 @@ module _ (names : List Name) (named_apart : views.AreApart names) (world : World
   abbrev P : Pair
   P = pair_at scene.from.node name
 
-  sent : IsWrittenAt names scene c name id sock said s.sender.cell
-  sent = is_written_at names named_apart scene c name conn id sock probed said h s.sender.cell sends
+  wrote : IsWrittenAt names scene c name id sock said s.sender.cell
+  wrote = is_written_at names named_apart scene c name conn id sock probed said h s.sender.cell sends
 
   abbrev Then : Cell
-  Then = cell_with s.sender.cell scene.from.end (keeping scene.from.node (with_said P)) sent.host
-
-  abbrev Now : World
-  Now = (wrote_in world from Then s.sender.came scene.from P id sock said).1
-
-  -- the world with the cell, where the message is the last one said
-  abbrev Said : World
-  Said = record (with_cell from (Then, s.sender.came) world) { last = Some (record { epoch = P.epoch; index = P.index }) }
-
-  abbrev Later : Scene
-  Later = written_in scene c P id said sent.host
-
-  by_leg : (leg : Leg) → legs scene.way.on ≡ Some leg → (find_end from sock world.sockets ≡ Some (leg.socket, other leg.toward)) × (leg.uses ≡ scene.given)
-      → Carries world scene.to.host leg (scene.way.flight scene.way.on) (scene.way.cut scene.way.on) → IsSceneOf Now from to legs Later
-  by_leg leg is on carried =
-      let written = write_now Said from sock Then leg.socket leg.toward (frame_spelling (frame_of id P said).0) (said_of (frame_of id P said).1) carried.socket on.0 carried.found in
-      let sockets = ap (λ (w : World). w.sockets) written in
-      let cells = ap (λ (w : World). w.cells) written in
-      let given = used_given scene.given id (record { pair = c; epoch = P.epoch }) h.used in
-      record {
-        sender = record {
-          cell = Then;
-          came = s.sender.came;
-          there = ap (λ z. slice_get z from) cells ∙ set_here world.cells from (Then, s.sender.came) (slice_get_within world.cells from (s.sender.cell, s.sender.came) s.sender.there);
-          at = sent.at;
-        };
-        receiver = record { cell = s.receiver.cell; came = s.receiver.came; there = ap (λ z. slice_get z to) cells ∙ set_other world.cells from (Then, s.sender.came) to (λ e. s.apart (sym e)) ∙ s.receiver.there; at = s.receiver.at };
-        apart = s.apart;
-        way = record {
-          carries = λ i. all_now world Now from to legs scene s apart (frame_of id P said) leg is on.1 given carried sockets i;
-          on = λ other_sock other_probed up. is_on_now world Now from to legs scene s apart (frame_of id P said) leg is on.1 given carried sockets from other_sock (legs scene.way.on) scene.given
-              (s.way.on other_sock other_probed (sym (ap (λ (z : Link). z.state) sent.link) ∙ up));
-          at = λ other_sock other_probed up. is_read_now world Now from to legs scene s apart (frame_of id P said) leg is on.1 given carried sockets to other_sock (legs scene.way.at) scene.created (s.way.at other_sock other_probed up);
-        };
-      }
-
-  by_way : (o : Option Leg) → legs scene.way.on ≡ o → IsOn world from sock o scene.given → OnLeg world scene.to.host o (scene.way.flight scene.way.on) (scene.way.cut scene.way.on) → IsSceneOf Now from to legs Later
-  by_way None is on carried = absurd on
-  by_way (Some leg) is on carried = by_leg leg is on carried
+  Then = cell_with s.sender.cell scene.from.end (keeping scene.from.node (with_said P)) wrote.host
 
   pub is_written_in : IsWrittenIn names world from to legs scene c name id sock said by target
   is_written_in = record {
-    host = sent.host;
+    host = wrote.host;
     cell = Then;
     came = s.sender.came;
-    answered = line_is world from scene.from name by target said l s.sender ∙ ap (cell_told from (s.sender.cell, s.sender.came) world) sent.answered;
-    now = by_way (legs scene.way.on) refl (s.way.on sock probed h.up) (s.way.carries scene.way.on);
-    seen = sent.seen;
+    answered = line_is world from scene.from name by target said l s.sender ∙ ap (cell_told from (s.sender.cell, s.sender.came) world) wrote.answered;
+    now = scene_written world from to legs scene s apart (keeping scene.from.node (with_said P)) wrote.host Then wrote.at (ap (λ (z : Link). z.state) wrote.link) sock probed h.up (Some (record { epoch = P.epoch; index = P.index })) (frame_of id P said)
+        (used_given scene.given id (record { pair = c; epoch = P.epoch }) h.used) (passages.Said c P.epoch P.index ∷ scene.log);
+    seen = wrote.seen;
   }

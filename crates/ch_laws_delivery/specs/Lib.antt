@@ -30,3 +30,4 @@ pub mod WorldRows
 pub mod QuietLines
 pub mod UpLines
 pub mod UpFirstLines
+pub mod AgainLines

@@ -3,7 +3,7 @@
 //!
 //! No code: definitions of the view, and laws as clauses of empty functions. The whole model stands below, and the
 //! machine with its laws. What a node and its host do at one event is shown to be a move, event by event; and so are lines of
-//! a world by which a process sends, takes a message, opens a port or is made. Of every other line that is open, and that
+//! a world by which a process sends, reconnects, takes a message, opens a port or is made. Of every other line that is open, and that
 //! all that is asked here of a scene holds in a world.
 #![tactic(auto)]
 
@@ -22,6 +22,8 @@ ghost use Rattle.ch_model.specs.declared.local.LocalEvent.{LocalEvent};
 ghost use Rattle.ch_model.specs.declared.local.LocalEvent.TheVariants.{Make};
 ghost use Rattle.ch_laws_delivery.specs.UpLines.{IsWrittenAt, AreSocketsApart, IsWrittenIn};
 ghost use Rattle.ch_laws_delivery.specs.UpFirstLines.{IsWrittenFirstAt, IsWrittenFirstIn};
+ghost use Rattle.ch_laws_delivery.specs.AgainLines.{IsReconnectedIn, IsClosedIn};
+ghost use Rattle.ch_model.specs.NodeRoom.{acting};
 ghost use Rattle.ch_laws_delivery.specs.QuietLines.{AreNotes, IsToldBy, IsToldIn, IsStoodIn};
 ghost use Rattle.ch_model.specs.NodeLives.{make};
 ghost use Rattle.ch_model.specs.NodeEnds.{over};
@@ -275,6 +277,17 @@ pub fn sent_by_a_line()
         → (s : IsSceneOf world from to legs scene) → AreSocketsApart legs → IsLineOf world from scene.from name by target → SaysFirstUp names scene c name conn sock probed said → SendsFirst scene name s.sender.cell → IsWrittenFirstIn names world from to legs scene c name conn sock said by target }
 {}
 
+/// A line by which a process that acts reconnects to a target at another node, where the pair has an open connection, in a world
+/// that has the scene of the two nodes: the line is answered `ok`, the world after it has the scene after it, with the same
+/// legs, where the connection's close waits, or while the link is up comes behind what is unread; and what is seen then is the
+/// passage after the move.
+pub fn reconnected_by_a_line()
+    ensures down { (names : List Name) → AreApart names → (world : World) (from to : ℕ) (legs : ℕ → Option Leg) (scene : Scene) (c : ℕ) (name : Name) (conn id : ℕ) (table : List Connection) (by : ProcName) (target : TargetName)
+        → IsSceneOf world from to legs scene → IsLineOf world from scene.from name by target → acting scene.from.node name.by ≡ Ok tt → ReconnectsOpen names scene c name conn id table → IsReconnectedIn names world from to legs scene c name id table by target }
+    ensures up { (names : List Name) → AreApart names → (world : World) (from to : ℕ) (legs : ℕ → Option Leg) (scene : Scene) (c : ℕ) (name : Name) (conn id sock : ℕ) (probed : Bool) (table : List Connection) (by : ProcName) (target : TargetName)
+        → IsSceneOf world from to legs scene → AreSocketsApart legs → IsLineOf world from scene.from name by target → acting scene.from.node name.by ≡ Ok tt → ReconnectsUp names scene c name conn id sock probed table → IsClosedIn names world from to legs scene c name id sock table by target }
+{}
+
 /// A line that a node answers by telling something, and asks nothing of its host, as those of `own_mail`, in a world that has
 /// the scene of two nodes: it is answered `ok`, and the world after it has the scene with the node after it. At the sending
 /// node what is seen of that is what `unseen_at_the_sender`, `reconnected_without_a_connection` or `said_on_a_broken_pair`
@@ -345,6 +358,8 @@ pub fn sending_worlds()
     ensures up { Sends both_up the_name (cell_of_party both_up.from) }
     ensures up_says { SaysUp the_names both_up 0 the_name 0 1024 0 false hello }
     ensures up_line { IsLineOf (world_with both_up up_sockets) 0 both_up.from the_name the_process the_target }
+    ensures later_line { IsLineOf (world_with (said_once (Dialing 0)) []) 0 (said_once (Dialing 0)).from the_name the_process the_target }
+    ensures up_reconnects { ReconnectsUp the_names both_up 0 the_name 0 1024 0 false (closed 0 ∷ []) }
     ensures fresh_scene { IsSceneOf (world_with both_fresh up_sockets) 0 1 fresh_legs both_fresh }
     ensures fresh_apart { AreSocketsApart fresh_legs }
     ensures fresh { SendsFirst both_fresh the_name (cell_of_party both_fresh.from) }

@@ -7,7 +7,7 @@ use Rattle.ch_link.specs.declared.LinkState.TheVariants.{Idle, Dialing, Up}
 use Rattle.ch_mail.specs.Mail.{life_of, make_of, newborn}
 use Rattle.ch_model.specs.Node.{node_make}
 use Rattle.ch_model.specs.NodeLives.{make}
-use Rattle.ch_light.specs.Ids.{id_of}
+use Rattle.ch_light.specs.Ids.{id_of, close_of}
 use Rattle.ch_model.specs.NodeActs.{growing}
 use Rattle.ch_watch.specs.Same.{same_node}
 use Rattle.ch_model.specs.HostCalls.{host_room}
@@ -129,6 +129,13 @@ returns-clause-up_says z = record { known = refl; lives = refl; opened = refl; a
 
 pub returns-clause-up_line : goal.returns-clause-up_line
 returns-clause-up_line z = record { home = refl; end = refl; process = refl; target = refl }
+
+pub returns-clause-later_line : goal.returns-clause-later_line
+returns-clause-later_line z = record { home = refl; end = refl; process = refl; target = refl }
+
+pub returns-clause-up_reconnects : goal.returns-clause-up_reconnects
+unfolding life_of pair_of is_pair same_target same_process growing id_of same_node close_of
+returns-clause-up_reconnects z = record { known = refl; lives = refl; opened = refl; grows = refl; carried = refl; up = refl; closes = refl; used = refl }
 
 -- ---- nothing was said yet
 
