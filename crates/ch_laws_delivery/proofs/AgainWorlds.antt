@@ -63,7 +63,7 @@ accepts_again : (n : NodeState) (by : ℕ) (to : Target) (room : Room) → actin
 unfolding node_command again_of
 accepts_again n by to room acts = ap (λ (r : Result (Unit {0}) CommandError). node.◌>>=◌ r (λ live. stopping (reconnect n (pair_of n.pairs by to)))) acts
 
-closes_on : (end conn : ℕ) (rest : List Act) (cell : Cell) (done : List Step) (host : HostState) → host_close cell.host end conn ≡ Ok (done, host)
+pub closes_on : (end conn : ℕ) (rest : List Act) (cell : Cell) (done : List Step) (host : HostState) → host_close cell.host end conn ≡ Ok (done, host)
     → acts_on end (acts.Close conn ∷ rest) cell ≡ after_entries (told_steps done) (acts_on end rest (record cell { host = host }))
 closes_on end conn rest cell done host h = ap (λ (r : Result (List Step × HostState) EndError). cells.◌then◌ (asked cell r) (acts_on end rest)) h
 

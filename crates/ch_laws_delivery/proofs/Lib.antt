@@ -39,4 +39,5 @@ pub mod UpWorlds
 pub mod UpFirstCells
 pub mod UpFirstWorlds
 pub mod AgainWorlds
+pub mod OverWorlds
 pub mod Names

@@ -47,7 +47,7 @@ use Rattle.ch_laws_delivery.specs.FirstSends.{IsGiven, AreGiven}
 use Rattle.ch_laws_delivery.specs.UpSends.{SaysUp, sent, frame_of}
 use Rattle.ch_laws_delivery.specs.View as views
 use Rattle.ch_laws_delivery.specs.Cells.{IsAt, Sends, cell_with}
-use Rattle.ch_laws_delivery.specs.Worlds.{Leg, since_of, answer_bytes, answer_places, Comes, Carries, OnLeg, IsOn, IsReadAt, IsSceneOf, IsLineOf}
+use Rattle.ch_laws_delivery.specs.Worlds.{Leg, since_of, answer_bytes, answer_places, Comes, Carries, OnLeg, IsOn, IsReadAt, IsWay, IsSceneOf, IsLineOf}
 use Rattle.ch_laws_delivery.specs.UpLines.{IsWrittenAt, AreSocketsApart, IsWrittenIn}
 use Rattle.ch_laws_delivery.proofs.UpCells.{is_written_at}
 use Rattle.ch_laws_delivery.proofs.Worlds.{line_is}
@@ -226,7 +226,7 @@ pub same_number : (i j : ℕ) → nat_eq i j ≡ true → i ≡ j
 same_number i j h = grind (arith, nat_tests)
 
 -- the way, where one frame more has come on the leg that the sending node is up on
-module _ (world now : World) (from to : ℕ) (legs : ℕ → Option Leg) (scene : Scene) (s : IsSceneOf world from to legs scene) (apart : AreSocketsApart legs) (item : Frame × Weight) (leg : Leg) (is : legs scene.way.on ≡ Some leg)
+module _ (world now : World) (from to : ℕ) (legs : ℕ → Option Leg) (scene : Scene) (w : IsWay world from to legs scene) (apart : AreSocketsApart legs) (item : Frame × Weight) (leg : Leg) (is : legs scene.way.on ≡ Some leg)
     (uses : leg.uses ≡ scene.given) (given : IsGiven scene.given item.0) (c : Carries world scene.to.host leg (scene.way.flight scene.way.on) (scene.way.cut scene.way.on))
     (sockets : now.sockets ≡ store_in (Changed (frame_spelling item.0) (said_of item.1) leg.toward c.socket) world.sockets) where
   abbrev After : WorldSocket
@@ -264,20 +264,20 @@ module _ (world now : World) (from to : ℕ) (legs : ℕ → Option Leg) (scene 
   abbrev Word : List Item
   Word = onto (scene.way.cut scene.way.on) (scene.way.flight scene.way.on) (items_of scene.given (item ∷ []))
 
-  all_now : (i : ℕ) → OnLeg now scene.to.host (legs i) (put scene.way.on Word scene.way.flight i) (scene.way.cut i)
+  pub all_now : (i : ℕ) → OnLeg now scene.to.host (legs i) (put scene.way.on Word scene.way.flight i) (scene.way.cut i)
   all_now i = by_test (nat_eq i scene.way.on) refl where
     differ : (i j : ℕ) → nat_eq i j ≡ false → i ≡ j → ⊥
     differ i j h e = grind (arith, nat_tests)
 
     by_test : (b : Bool) → nat_eq i scene.way.on ≡ b → OnLeg now scene.to.host (legs i) (cond b Word (scene.way.flight i)) (scene.way.cut i)
     by_test true q = subst (λ (j : ℕ). OnLeg now scene.to.host (legs j) Word (scene.way.cut j)) (sym (same_number i scene.way.on q)) (subst (λ (o : Option Leg). OnLeg now scene.to.host o Word (scene.way.cut scene.way.on)) (sym is) carries_now)
-    by_test false q = others_now i (differ i scene.way.on q) (legs i) refl (s.way.carries i)
+    by_test false q = others_now i (differ i scene.way.on q) (legs i) refl (w.carries i)
 
-  is_on_now : (place sock : ℕ) (o : Option Leg) (given : List (Option Use)) → IsOn world place sock o given → IsOn now place sock o given
+  pub is_on_now : (place sock : ℕ) (o : Option Leg) (given : List (Option Use)) → IsOn world place sock o given → IsOn now place sock o given
   is_on_now place sock None given h = h
   is_on_now place sock (Some l) given h = (ends_now place sock ∙ h.0, h.1)
 
-  is_read_now : (place sock : ℕ) (o : Option Leg) (created : List (Option Use)) → IsReadAt world place sock o created → IsReadAt now place sock o created
+  pub is_read_now : (place sock : ℕ) (o : Option Leg) (created : List (Option Use)) → IsReadAt world place sock o created → IsReadAt now place sock o created
   is_read_now place sock None created h = h
   is_read_now place sock (Some l) created h = (ends_now place sock ∙ h.0, h.1)
 
@@ -311,9 +311,9 @@ module _ (world : World) (from to : ℕ) (legs : ℕ → Option Leg) (scene : Sc
         receiver = record { cell = s.receiver.cell; came = s.receiver.came; there = ap (λ z. slice_get z to) cells ∙ set_other world.cells from (cell, s.sender.came) to (λ e. s.apart (sym e)) ∙ s.receiver.there; at = s.receiver.at };
         apart = s.apart;
         way = record {
-          carries = λ i. all_now world Wrote from to legs scene s apart item leg is on.1 given carried sockets i;
-          on = λ other_sock other_probed other_up. is_on_now world Wrote from to legs scene s apart item leg is on.1 given carried sockets from other_sock (legs scene.way.on) scene.given (s.way.on other_sock other_probed (sym state ∙ other_up));
-          at = λ other_sock other_probed other_up. is_read_now world Wrote from to legs scene s apart item leg is on.1 given carried sockets to other_sock (legs scene.way.at) scene.created (s.way.at other_sock other_probed other_up);
+          carries = λ i. all_now world Wrote from to legs scene s.way apart item leg is on.1 given carried sockets i;
+          on = λ other_sock other_probed other_up. is_on_now world Wrote from to legs scene s.way apart item leg is on.1 given carried sockets from other_sock (legs scene.way.on) scene.given (s.way.on other_sock other_probed (sym state ∙ other_up));
+          at = λ other_sock other_probed other_up. is_read_now world Wrote from to legs scene s.way apart item leg is on.1 given carried sockets to other_sock (legs scene.way.at) scene.created (s.way.at other_sock other_probed other_up);
         };
       }
 

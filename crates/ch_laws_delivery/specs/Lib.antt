@@ -31,3 +31,4 @@ pub mod QuietLines
 pub mod UpLines
 pub mod UpFirstLines
 pub mod AgainLines
+pub mod OverLines

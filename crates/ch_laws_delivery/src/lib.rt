@@ -3,8 +3,8 @@
 //!
 //! No code: definitions of the view, and laws as clauses of empty functions. The whole model stands below, and the
 //! machine with its laws. What a node and its host do at one event is shown to be a move, event by event; and so are lines of
-//! a world by which a process sends, reconnects, takes a message, opens a port or is made. Of every other line that is open, and that
-//! all that is asked here of a scene holds in a world.
+//! a world by which a process sends, reconnects, is over, takes a message, opens a port or is made. Of every other line that is
+//! open, and that all that is asked here of a scene holds in a world.
 #![tactic(auto)]
 
 ghost use Rattle.std.specs.Prelude.{◌≡◌, ◌<◌, ℕ, Bool, true, false, is_some, List, [], ◌∷◌, Option, Ok};
@@ -12,18 +12,20 @@ ghost use Rattle.ch_base.specs.declared.event.Room.{Room};
 ghost use Rattle.ch_base.specs.declared.event.Why.{Why};
 ghost use Rattle.ch_base.specs.declared.event.Why.TheVariants.{Disconnect, NodeDown};
 ghost use Rattle.ch_model.specs.NodePairs.{lost_pairs};
+ghost use Rattle.ch_static.specs.declared.command.Command.TheVariants as commands;
 ghost use Rattle.ch_static.specs.declared.command.Command.TheVariants.{Receive, Take, OpenPort, Register, Unregister};
 ghost use Rattle.ch_model.specs.declared.act.Act.{Act};
 ghost use Rattle.ch_model.specs.declared.note.Origin.{Origin};
 ghost use Rattle.ch_model.specs.Node.{node_make, node_command};
 ghost use Rattle.ch_model.specs.declared.line.What.{What};
-ghost use Rattle.ch_model.specs.declared.line.What.TheVariants.{Proc};
+ghost use Rattle.ch_model.specs.declared.line.What.TheVariants.{Proc, End};
 ghost use Rattle.ch_model.specs.declared.local.LocalEvent.{LocalEvent};
-ghost use Rattle.ch_model.specs.declared.local.LocalEvent.TheVariants.{Make};
+ghost use Rattle.ch_model.specs.declared.local.LocalEvent.TheVariants.{Make, Command};
 ghost use Rattle.ch_laws_delivery.specs.UpLines.{IsWrittenAt, AreSocketsApart, IsWrittenIn};
 ghost use Rattle.ch_laws_delivery.specs.UpFirstLines.{IsWrittenFirstAt, IsWrittenFirstIn};
 ghost use Rattle.ch_laws_delivery.specs.AgainLines.{IsReconnectedIn, IsClosedIn};
 ghost use Rattle.ch_model.specs.NodeRoom.{acting};
+ghost use Rattle.ch_laws_delivery.specs.OverLines.{IsLeftBy, IsOverIn};
 ghost use Rattle.ch_laws_delivery.specs.QuietLines.{AreNotes, IsToldBy, IsToldIn, IsStoodIn};
 ghost use Rattle.ch_model.specs.NodeLives.{make};
 ghost use Rattle.ch_model.specs.NodeEnds.{over};
@@ -49,7 +51,7 @@ ghost use Rattle.ch_laws_delivery.specs.Worlds.{Leg, IsSceneOf, NamesAreNew, IsL
 ghost use Rattle.ch_laws_delivery.specs.Cells.{Sends, SendsFirst, IsSentAt, IsSentFirstAt};
 ghost use Rattle.ch_laws_delivery.specs.Shuts.{IsShut, IsShutThere, IsShutOff};
 ghost use Rattle.ch_laws_delivery.specs.WorldRows.{cell_of_party, world_with, no_legs, the_process, the_target, acts_of_proc, after_proc, up_sockets, up_legs, both_up, fresh_legs, both_fresh};
-ghost use Rattle.ch_laws_delivery.specs.EndingRows.{broken_once, the_parting, over_here};
+ghost use Rattle.ch_laws_delivery.specs.EndingRows.{broken_once, the_parting, over_here, farewells_here};
 ghost use Rattle.ch_laws_delivery.specs.Rises.{ComesUp, IsRisen, IsCome};
 ghost use Rattle.ch_laws_delivery.specs.Losses.{Fails, LosesSocket, IsBroken};
 ghost use Rattle.ch_laws_delivery.specs.Falls.{IsFallen};
@@ -288,6 +290,15 @@ pub fn reconnected_by_a_line()
         → IsSceneOf world from to legs scene → AreSocketsApart legs → IsLineOf world from scene.from name by target → acting scene.from.node name.by ≡ Ok tt → ReconnectsUp names scene c name conn id sock probed table → IsClosedIn names world from to legs scene c name id sock table by target }
 {}
 
+/// A line by which a process of the sending node is over, in a world that has the scene of the two nodes, where the node tells
+/// something and closes connections on the link with the peer, and asks nothing more of its host: it is answered `ok`, the
+/// world after it has the scene after it, with the same legs, where each close waits, or while the link is up comes behind what
+/// is unread; and what is seen then is the passage after the pairs of the process are finished.
+pub fn over_by_a_line()
+    ensures { (names : List Name) (world : World) (from to : ℕ) (legs : ℕ → Option Leg) (scene : Scene) (what : What) (event : LocalEvent) (did : List Act) (after : NodeState) (number : ℕ) (ps : List Parting) (others : List ℕ)
+        → IsSceneOf world from to legs scene → AreSocketsApart legs → IsLeftBy world from scene.from what event did after ps → EndsWith names scene number after ps others → IsOverIn names world from to legs scene what did after ps others }
+{}
+
 /// A line that a node answers by telling something, and asks nothing of its host, as those of `own_mail`, in a world that has
 /// the scene of two nodes: it is answered `ok`, and the world after it has the scene with the node after it. At the sending
 /// node what is seen of that is what `unseen_at_the_sender`, `reconnected_without_a_connection` or `said_on_a_broken_pair`
@@ -360,6 +371,8 @@ pub fn sending_worlds()
     ensures up_line { IsLineOf (world_with both_up up_sockets) 0 both_up.from the_name the_process the_target }
     ensures later_line { IsLineOf (world_with (said_once (Dialing 0)) []) 0 (said_once (Dialing 0)).from the_name the_process the_target }
     ensures up_reconnects { ReconnectsUp the_names both_up 0 the_name 0 1024 0 false (closed 0 ∷ []) }
+    ensures up_ends { IsLeftBy (world_with both_up up_sockets) 0 both_up.from (End the_process) (Command 7 0 commands.End) farewells_here over_here (the_parting ∷ []) }
+    ensures up_ending { EndsWith the_names both_up 0 over_here (the_parting ∷ []) [] }
     ensures fresh_scene { IsSceneOf (world_with both_fresh up_sockets) 0 1 fresh_legs both_fresh }
     ensures fresh_apart { AreSocketsApart fresh_legs }
     ensures fresh { SendsFirst both_fresh the_name (cell_of_party both_fresh.from) }

@@ -1,21 +1,28 @@
-use Rattle.std.specs.Prelude.{◌≡◌, ℕ, Bool, true, false, nat_eq, List, [], Option, Some, None}
+use Rattle.std.specs.Prelude.{◌≡◌, ℕ, zero, suc, Bool, true, false, ◌==◌, ◌||◌, nat_eq, List, [], ◌∷◌, slice_get, Option, Some, None, if◌then◌else◌}
 use Rattle.std.specs.Fmt.{digits}
 use Rattle.std.proofs.Common.{refl, ap, sym, ◌∙◌, subst, arith}
+use Rattle.std.proofs.lemmas.Bool.{eqb-true}
 use Rattle.std.proofs.lemmas.Bool.Decides.{nat_tests}
 use Rattle.ch_link.specs.declared.LinkState.{LinkState}
 use Rattle.ch_link.specs.declared.LinkState.TheVariants.{Idle, Dialing, Up}
-use Rattle.ch_mail.specs.Mail.{life_of, make_of, newborn}
-use Rattle.ch_model.specs.Node.{node_make}
+use Rattle.ch_mail.specs.Mail.{life_of, make_of, newborn, ended, end_of}
+use Rattle.ch_watch.specs.Watches.{ending_of, ended_of}
+use Rattle.ch_model.specs.Node.{node_make, node_command, target_node}
+use Rattle.ch_model.specs.NodeCommands.{finish_of}
+use Rattle.ch_model.specs.NodeEnds.{farewell, over}
 use Rattle.ch_model.specs.NodeLives.{make}
 use Rattle.ch_light.specs.Ids.{id_of, close_of}
 use Rattle.ch_model.specs.NodeActs.{growing}
 use Rattle.ch_watch.specs.Same.{same_node}
 use Rattle.ch_model.specs.HostCalls.{host_room}
 use Rattle.ch_model.specs.NodeConnections.{conn_to, drawn}
-use Rattle.ch_model.specs.NodePairs.{pair_of, is_pair, same_target, same_process}
+use Rattle.ch_model.specs.NodePairs.{pair_of, is_pair, same_target, same_process, conns_by, closed_pairs}
 use Rattle.ch_model.specs.NodeRoom.{acting, not_spent, opened_besides}
 use Rattle.ch_delivery.specs.Passage.{Item}
-use Rattle.ch_laws_delivery.specs.Rows.{here, at_start, said_once}
+use Rattle.ch_laws_delivery.specs.Sending.{is_over_at}
+use Rattle.ch_laws_delivery.specs.Endings.{has, is_by}
+use Rattle.ch_laws_delivery.specs.EndingRows.{over_here}
+use Rattle.ch_laws_delivery.specs.Rows.{here, the_names, at_start, said_once}
 use Rattle.ch_laws_delivery.specs.WorldRows.{cell_of_party, world_with, the_socket, end_of_cell, up_sockets, the_leg, up_legs, both_up, fresh_leg, fresh_legs, both_fresh}
 use Rattle.ch_laws_delivery.specs.Worlds.{Leg, Carries, OnLeg, IsOn, IsReadAt}
 use Rattle.ch_laws_delivery.proofs.sending_worlds.Goals as goal
@@ -136,6 +143,42 @@ returns-clause-later_line z = record { home = refl; end = refl; process = refl; 
 pub returns-clause-up_reconnects : goal.returns-clause-up_reconnects
 unfolding life_of pair_of is_pair same_target same_process growing id_of same_node close_of
 returns-clause-up_reconnects z = record { known = refl; lives = refl; opened = refl; grows = refl; carried = refl; up = refl; closes = refl; used = refl }
+
+-- ---- its process ends
+
+pub returns-clause-up_ends : goal.returns-clause-up_ends
+unfolding node_command finish_of acting life_of over farewell end_of ended ended_of ending_of conns_by closed_pairs target_node
+returns-clause-up_ends z = record { heard = refl; end = refl; does = refl; farewells = (refl, tt) }
+
+pub returns-clause-up_ending : goal.returns-clause-up_ending
+unfolding life_of pair_of is_pair same_target same_process growing id_of same_node close_of closed_pairs
+returns-clause-up_ending z = record {
+  ends = record { pairs = refl; shut = refl; over = λ by. over_as by };
+  all = λ d. all_as d;
+  distinct = (refl, tt);
+  opens = ((refl, refl), tt);
+  bare = tt;
+  part = (record { carried = refl; closes = refl; used = refl }, tt);
+} where
+  later : (i : ℕ) → (suc i == 0) ≡ false
+  later i = by_test (suc i == 0) refl where
+    differ : (i : ℕ) → suc i ≡ 0 → ⊥
+    differ i h = cc
+
+    by_test : (b : Bool) → (suc i == 0) ≡ b → b ≡ false
+    by_test false is = refl
+    by_test true is = absurd (differ i (eqb-true (suc i) 0 is))
+
+  apart : (i : ℕ) → nat_eq (suc i) 0 ≡ false
+  apart i = grind (arith, nat_tests)
+
+  over_as : (by : ℕ) → is_over_at over_here by ≡ (if by == 0 then true else is_over_at (both_up).from.node by)
+  over_as zero = refl
+  over_as (suc by) = sym (ap (λ b. if b then true else is_over_at (both_up).from.node (suc by)) (later by))
+
+  all_as : (d : ℕ) → has (0 ∷ []) d ≡ is_by 0 (slice_get the_names d)
+  all_as zero = refl
+  all_as (suc d) = ap (λ b. b || false) (apart d)
 
 -- ---- nothing was said yet
 
