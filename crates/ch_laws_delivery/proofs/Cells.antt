@@ -155,7 +155,7 @@ pub puts_on : (end conn : ℕ) (payload : List ℕ) (weight : Weight) (rest : Li
     → acts_on end (acts.Put conn payload weight ∷ rest) cell ≡ after_entries (told_steps done) (acts_on end rest (record cell { host = host }))
 puts_on end conn payload weight rest cell done host h = ap (λ (r : Result (List Step × HostState) EndError). cells.◌then◌ (asked cell r) (acts_on end rest)) h
 
-opens_on : (end conn : ℕ) (peer : AddressValue) (rest : List Act) (cell : Cell) (done : List Step) (host : HostState) → host_connect cell.host end peer conn ≡ Ok (done, host)
+pub opens_on : (end conn : ℕ) (peer : AddressValue) (rest : List Act) (cell : Cell) (done : List Step) (host : HostState) → host_connect cell.host end peer conn ≡ Ok (done, host)
     → acts_on end (acts.Open conn peer ∷ rest) cell ≡ after_entries (told_steps done) (acts_on end rest (record cell { host = host }))
 opens_on end conn peer rest cell done host h = ap (λ (r : Result (List Step × HostState) EndError). cells.◌then◌ (asked cell r) (acts_on end rest)) h
 

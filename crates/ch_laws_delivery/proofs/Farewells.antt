@@ -48,7 +48,7 @@ module _ (names : List Name) (scene : Scene) (p : Parting) (h : Parts scene p) w
   abbrev Kept : HostState
   Kept = closed_host scene.from.host L p.id p.table
 
-  kept_now : link_with Kept scene.from.end scene.from.peer ≡ record L { given = p.table; waits = L.waits ++ close_frame p.id ∷ [] }
+  pub kept_now : link_with Kept scene.from.end scene.from.peer ≡ record L { given = p.table; waits = L.waits ++ close_frame p.id ∷ [] }
   kept_now = let key = link_named scene.from.host scene.from.end scene.from.peer in
       ap (λ (z : ℕ). link_with Kept z scene.from.peer) (sym key.0) ∙ ap (λ (z : AddressValue). link_with Kept L.end z) (sym key.1)
       ∙ link_kept (record L { given = p.table; waits = L.waits ++ close_frame p.id ∷ [] }) scene.from.host
@@ -65,7 +65,7 @@ module _ (names : List Name) (scene : Scene) (p : Parting) (h : Parts scene p) w
   abbrev Without : HostState
   Without = host_without scene.from.host L p.table
 
-  without_now : link_with Without scene.from.end scene.from.peer ≡ record L { given = p.table }
+  pub without_now : link_with Without scene.from.end scene.from.peer ≡ record L { given = p.table }
   without_now = let key = link_named scene.from.host scene.from.end scene.from.peer in
       ap (λ (z : ℕ). link_with Without z scene.from.peer) (sym key.0) ∙ ap (λ (z : AddressValue). link_with Without L.end z) (sym key.1) ∙ link_kept (record L { given = p.table }) scene.from.host
 

@@ -36,4 +36,8 @@ pub mod Worlds
 pub mod QuietLines
 pub mod UpCells
 pub mod UpWorlds
+pub mod UpFirstCells
+pub mod UpFirstWorlds
+pub mod AgainWorlds
+pub mod OverWorlds
 pub mod Names

@@ -81,7 +81,7 @@ module _ (names : List Name) (apart : AreApart names) (scene : Scene) (c : ℕ) 
   abbrev After : HostState
   After = closed_host scene.from.host L id table
 
-  link_now : link_with After scene.from.end scene.from.peer ≡ record L { given = table; waits = L.waits ++ (frames.Closed id, Free) ∷ [] }
+  pub link_now : link_with After scene.from.end scene.from.peer ≡ record L { given = table; waits = L.waits ++ (frames.Closed id, Free) ∷ [] }
   link_now = let key = link_named scene.from.host scene.from.end scene.from.peer in
       ap (λ (z : ℕ). link_with After z scene.from.peer) (sym key.0) ∙ ap (λ (z : AddressValue). link_with After L.end z) (sym key.1)
       ∙ link_kept (record L { given = table; waits = L.waits ++ (frames.Closed id, Free) ∷ [] }) scene.from.host
@@ -119,7 +119,7 @@ module _ (names : List Name) (apart : AreApart names) (scene : Scene) (c : ℕ) 
   abbrev UpNow : HostState
   UpNow = host_without scene.from.host UpL table
 
-  link_up : link_with UpNow scene.from.end scene.from.peer ≡ record UpL { given = table }
+  pub link_up : link_with UpNow scene.from.end scene.from.peer ≡ record UpL { given = table }
   link_up = let key = link_named scene.from.host scene.from.end scene.from.peer in
       ap (λ (z : ℕ). link_with UpNow z scene.from.peer) (sym key.0) ∙ ap (λ (z : AddressValue). link_with UpNow UpL.end z) (sym key.1) ∙ link_kept (record UpL { given = table }) scene.from.host
 

@@ -60,7 +60,7 @@ old_items uses u frames.EndClosed said h = refl
 old_items uses u frames.Probe said h = refl
 old_items uses u frames.ProbeAck said h = refl
 
-old_waits : (uses : List (Option Use)) (u : Option Use) (waits : List (Frame × Weight)) → AreGiven uses waits → items_of (uses ++ u ∷ []) waits ≡ items_of uses waits
+pub old_waits : (uses : List (Option Use)) (u : Option Use) (waits : List (Frame × Weight)) → AreGiven uses waits → items_of (uses ++ u ∷ []) waits ≡ items_of uses waits
 old_waits uses u [] h = refl
 old_waits uses u (item ∷ rest) h = ap (λ (z : List Item). z ++ items_of (uses ++ u ∷ []) rest) (old_items uses u item.0 (said_of item.1) h.0) ∙ ap (λ (z : List Item). items_in uses item.0 (said_of item.1) ++ z) (old_waits uses u rest h.1)
 

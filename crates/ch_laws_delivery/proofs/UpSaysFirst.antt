@@ -129,5 +129,7 @@ module _ (names : List Name) (apart : AreApart names) (scene : Scene) (c : ℕ) 
     host_connects = connects;
     host_tells = tells;
     host_writes = puts;
+    settled = λ q. third.settled (second.settled (first.settled q));
+    link = link_now;
     seen = seen_now;
   }

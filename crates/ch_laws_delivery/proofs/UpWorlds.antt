@@ -1,6 +1,6 @@
 -- A line by which a process sends while the link is up is the passage's move: its frame's bytes come behind what is unread at the
 -- receiving node's end.
-use Rattle.std.specs.Prelude.{◌≡◌, ℕ, Bool, true, false, cond, ◌&&◌, ◌||◌, ◌==◌, nat_eq, List, [], ◌∷◌, ◌++◌, map, find, slice_get, Option, Some, None, if◌then◌else◌}
+use Rattle.std.specs.Prelude.{◌≡◌, ◌<◌, ℕ, ◌+◌, ◌-◌, Bool, true, false, cond, ◌&&◌, ◌||◌, ◌==◌, nat_eq, List, [], ◌∷◌, ◌++◌, map, length, find, slice_get, nat_lt, Option, Some, None, if◌then◌else◌}
 use Rattle.std.specs.List.{flat_map}
 use Rattle.std.specs.Str.{bytes_eq}
 use Rattle.std.proofs.Common.{refl, ap, sym, ◌∙◌, subst, arith}
@@ -12,6 +12,8 @@ use Rattle.std.proofs.lemmas.Option.{slice_get_within}
 use Rattle.std.proofs.lemmas.Slice.Eq.{bytes_eq-Decides}
 use Rattle.ch_ident.specs.declared.message.Message.{Message}
 use Rattle.ch_light.proofs.Lists.{set_here, set_other}
+use Rattle.ch_light.specs.declared.TheConstants.{FIRST_ID}
+use Rattle.ch_link.specs.declared.LinkState.TheVariants.{Up}
 use Rattle.ch_wire.specs.Spelling.{frame_spelling}
 use Rattle.ch_wire.specs.declared.frame.Frame.{Frame}
 use Rattle.ch_model.specs.declared.entry.Entry.{Entry}
@@ -27,29 +29,32 @@ use Rattle.ch_model.specs.declared.step.Weight.{Weight}
 use Rattle.ch_model.specs.Same.{same_socket}
 use Rattle.ch_model.specs.Stages.{is_ended}
 use Rattle.ch_model.specs.HostState.{Link, HostState}
-use Rattle.ch_model.specs.HostWrites.{said_of}
-use Rattle.ch_model.specs.NodeState.{Pair}
+use Rattle.ch_model.specs.HostSteps.{link_with}
+use Rattle.ch_model.specs.HostWrites.{said_of, frame_step}
+use Rattle.ch_model.specs.NodeState.{NodeState, Pair}
 use Rattle.ch_model.specs.NodePairs.{keeping}
 use Rattle.ch_model.specs.NodeSends.{with_said}
 use Rattle.ch_model.specs.WorldState.{Cell, WorldEnd, WorldSocket, World}
 use Rattle.ch_model.specs.WorldSockets.{end_of, other, with_end, item_arrives, is_socket_named, store_in, with_socket, with_end_of, is_end_of, end_at, find_end}
 use Rattle.ch_model.specs.WorldSteps.{stepped}
 use Rattle.ch_model.specs.WorldHappenings.{with_cell, cell_told}
+use Rattle.ch_delivery.specs.Passage as passages
 use Rattle.ch_delivery.specs.Passage.{Item}
 use Rattle.ch_delivery.specs.Moves.{put, onto}
-use Rattle.ch_laws_delivery.specs.Scene.{Name, Use, Scene}
-use Rattle.ch_laws_delivery.specs.Sending.{pair_at, items_in, items_of}
-use Rattle.ch_laws_delivery.specs.UpSends.{SaysUp, frame_of, written_in}
+use Rattle.ch_laws_delivery.specs.Scene.{Name, Use, Scene, link_of}
+use Rattle.ch_laws_delivery.specs.Sending.{pair_at, flat, use_at, items_in, items_of}
+use Rattle.ch_laws_delivery.specs.FirstSends.{IsGiven, AreGiven}
+use Rattle.ch_laws_delivery.specs.UpSends.{SaysUp, sent, frame_of}
 use Rattle.ch_laws_delivery.specs.View as views
-use Rattle.ch_laws_delivery.specs.Cells.{Sends, cell_with}
-use Rattle.ch_laws_delivery.specs.Worlds.{Leg, since_of, answer_bytes, answer_places, Comes, Carries, OnLeg, IsOn, IsReadAt, IsSceneOf, IsLineOf}
-use Rattle.ch_laws_delivery.specs.UpLines.{IsWrittenAt, AreSocketsApart, wrote_in, IsWrittenIn}
+use Rattle.ch_laws_delivery.specs.Cells.{IsAt, Sends, cell_with}
+use Rattle.ch_laws_delivery.specs.Worlds.{Leg, since_of, answer_bytes, answer_places, Comes, Carries, OnLeg, IsOn, IsReadAt, IsWay, IsSceneOf, IsLineOf}
+use Rattle.ch_laws_delivery.specs.UpLines.{IsWrittenAt, AreSocketsApart, IsWrittenIn}
 use Rattle.ch_laws_delivery.proofs.UpCells.{is_written_at}
 use Rattle.ch_laws_delivery.proofs.Worlds.{line_is}
 
 -- ---- names of sockets
 
-wrong : {A : Type 0} → false ≡ true → A
+pub wrong : {A : Type 0} → false ≡ true → A
 wrong h = absurd (clash h) where
   clash : false ≡ true → ⊥
   clash h = cc
@@ -65,14 +70,14 @@ same_name a b h =
 name_self : (a : SockName) → same_socket a a ≡ true
 name_self a = ap (λ b. (b && bytes_eq a.to a.to) && (a.number == a.number)) ((bytes_eq-Decides a.from a.from).1 refl) ∙ ap (λ b. b && (a.number == a.number)) ((bytes_eq-Decides a.to a.to).1 refl) ∙ eq-eqb a.number a.number refl
 
-other_name : (name : SockName) (socket : WorldSocket) → (socket.name ≡ name → ⊥) → is_socket_named name socket ≡ false
+pub other_name : (name : SockName) (socket : WorldSocket) → (socket.name ≡ name → ⊥) → is_socket_named name socket ≡ false
 other_name name socket off = by_test (is_socket_named name socket) refl where
   by_test : (b : Bool) → is_socket_named name socket ≡ b → b ≡ false
   by_test false is = refl
   by_test true is = absurd (off (same_name socket.name name is))
 
 -- what is found has the name
-found_name : (name : SockName) (known : List WorldSocket) (socket : WorldSocket) → find (is_socket_named name) known ≡ Some socket → socket.name ≡ name
+pub found_name : (name : SockName) (known : List WorldSocket) (socket : WorldSocket) → find (is_socket_named name) known ≡ Some socket → socket.name ≡ name
 found_name name [] socket h = absurd (clash h) where
   clash : ◌≡◌ {A = Option WorldSocket} None (Some socket) → ⊥
   clash e = cc
@@ -87,14 +92,14 @@ found_name name (first ∷ rest) socket h = by_test (is_socket_named name first)
 -- ---- a socket that is kept
 
 module _ (socket : WorldSocket) where
-  stored_found : (known : List WorldSocket) → find (is_socket_named socket.name) (store_in socket known) ≡ Some socket
+  pub stored_found : (known : List WorldSocket) → find (is_socket_named socket.name) (store_in socket known) ≡ Some socket
   stored_found [] = ap (λ b. cond b (Some socket) None) (name_self socket.name)
   stored_found (first ∷ rest) = by_test (is_socket_named socket.name first) refl (stored_found rest) where
     by_test : (b : Bool) → is_socket_named socket.name first ≡ b → find (is_socket_named socket.name) (store_in socket rest) ≡ Some socket → find (is_socket_named socket.name) (if b then socket ∷ rest else first ∷ store_in socket rest) ≡ Some socket
     by_test true is f = ap (λ b. cond b (Some socket) (find (is_socket_named socket.name) rest)) (name_self socket.name)
     by_test false is f = ap (λ b. cond b (Some first) (find (is_socket_named socket.name) (store_in socket rest))) is ∙ f
 
-  stored_other : (name : SockName) → is_socket_named name socket ≡ false → (known : List WorldSocket) → find (is_socket_named name) (store_in socket known) ≡ find (is_socket_named name) known
+  pub stored_other : (name : SockName) → is_socket_named name socket ≡ false → (known : List WorldSocket) → find (is_socket_named name) (store_in socket known) ≡ find (is_socket_named name) known
   stored_other name off [] = ap (λ b. cond b (Some socket) None) off
   stored_other name off (first ∷ rest) = by_test (is_socket_named socket.name first) refl (stored_other name off rest) where
     by_test : (b : Bool) → is_socket_named socket.name first ≡ b → find (is_socket_named name) (store_in socket rest) ≡ find (is_socket_named name) rest
@@ -103,7 +108,7 @@ module _ (socket : WorldSocket) where
         ∙ sym (ap (λ b. cond b (Some first) (find (is_socket_named name) rest)) (ap (λ (z : SockName). same_socket z name) (same_name first.name socket.name is) ∙ off))
     by_test false is f = ap (cond (is_socket_named name first) (Some first)) f
 
-  stored_end : (cell number : ℕ) (before : WorldSocket) → end_at cell number socket ≡ end_at cell number before → (known : List WorldSocket) → find (is_socket_named socket.name) known ≡ Some before → find_end cell number (store_in socket known) ≡ find_end cell number known
+  pub stored_end : (cell number : ℕ) (before : WorldSocket) → end_at cell number socket ≡ end_at cell number before → (known : List WorldSocket) → find (is_socket_named socket.name) known ≡ Some before → find_end cell number (store_in socket known) ≡ find_end cell number known
   stored_end cell number before same [] h = absurd (clash h) where
     clash : ◌≡◌ {A = Option WorldSocket} None (Some before) → ⊥
     clash e = cc
@@ -121,14 +126,14 @@ module _ (socket : WorldSocket) where
 
 module _ (bytes : List ℕ) (said : Option Place) where
   -- the socket with the item at this end
-  abbrev Changed : End → WorldSocket → WorldSocket
+  abbrev pub Changed : End → WorldSocket → WorldSocket
   Changed end socket = with_end end (item_arrives bytes said (end_of end socket)) socket
 
-  name_kept : (end : End) (socket : WorldSocket) → (Changed end socket).name ≡ socket.name
+  pub name_kept : (end : End) (socket : WorldSocket) → (Changed end socket).name ≡ socket.name
   name_kept O socket = refl
   name_kept T socket = refl
 
-  end_kept : (end : End) (socket : WorldSocket) → end_of end (Changed end socket) ≡ item_arrives bytes said (end_of end socket)
+  pub end_kept : (end : End) (socket : WorldSocket) → end_of end (Changed end socket) ≡ item_arrives bytes said (end_of end socket)
   end_kept O socket = refl
   end_kept T socket = refl
 
@@ -138,7 +143,7 @@ module _ (bytes : List ℕ) (said : Option Place) where
     by_over true = refl
     by_over false = refl
 
-  at_kept : (cell number : ℕ) (end : End) (socket : WorldSocket) → end_at cell number (Changed end socket) ≡ end_at cell number socket
+  pub at_kept : (cell number : ℕ) (end : End) (socket : WorldSocket) → end_at cell number (Changed end socket) ≡ end_at cell number socket
   at_kept cell number O socket = ap (λ b. if b then Some O else (if is_end_of cell number socket.t then Some T else None)) (is_end_kept cell number socket.o)
   at_kept cell number T socket = ap (λ b. if is_end_of cell number socket.o then Some O else (if b then Some T else None)) (is_end_kept cell number socket.t)
 
@@ -146,10 +151,34 @@ map_more : {X Y : Type 0} (f : X → Y) (xs : List X) (x : X) → map f xs ++ f 
 map_more f [] x = refl
 map_more {Y = Y} f (y ∷ rest) x = ap (λ (z : List Y). f y ∷ z) (map_more f rest x)
 
+-- ids that were given, with one frame more
+given_more : (uses : List (Option Use)) (known : List (Frame × Weight)) (item : Frame × Weight) → AreGiven uses known → IsGiven uses item.0 → AreGiven uses (known ++ item ∷ [])
+given_more uses [] item h g = (g, tt)
+given_more uses (first ∷ rest) item h g = (h.0, given_more uses rest item h.1 g)
+
+-- an id that is for something was given
+pub used_given : (uses : List (Option Use)) (id : ℕ) (u : Use) → use_at uses id ≡ Some u → id < FIRST_ID + length uses
+used_given uses id u h = by_test (nat_lt id FIRST_ID) refl h where
+  none : {A : Type 0} → ◌≡◌ {A = Option Use} None (Some u) → A
+  none q = absurd (clash q) where
+    clash : ◌≡◌ {A = Option Use} None (Some u) → ⊥
+    clash e = cc
+
+  within : (a n id : ℕ) → nat_lt id a ≡ false → id - a < n → id < a + n
+  within a n id off h = grind (arith, nat_tests)
+
+  by_slot : (o : Option (Option Use)) → slice_get uses (id - FIRST_ID) ≡ o → flat o ≡ Some u → id - FIRST_ID < length uses
+  by_slot None is q = none q
+  by_slot (Some one) is q = slice_get_within uses (id - FIRST_ID) one is
+
+  by_test : (b : Bool) → nat_lt id FIRST_ID ≡ b → (if b then None else flat (slice_get uses (id - FIRST_ID))) ≡ Some u → id < FIRST_ID + length uses
+  by_test true is q = none q
+  by_test false is q = within FIRST_ID (length uses) id is (by_slot (slice_get uses (id - FIRST_ID)) refl q)
+
 -- what comes there, with one frame more
-comes_more : (host : HostState) (uses : List (Option Use)) (end : WorldEnd) (word : List Item) (cut : Bool) (item : Frame × Weight) → Comes host uses end word cut
+pub comes_more : (host : HostState) (uses : List (Option Use)) (end : WorldEnd) (word : List Item) (cut : Bool) (item : Frame × Weight) → IsGiven uses item.0 → Comes host uses end word cut
     → Comes host uses (item_arrives (frame_spelling item.0) (said_of item.1) end) (onto cut word (items_of uses (item ∷ []))) cut
-comes_more host uses end word cut item h = subst (λ (b : Bool). Comes host uses (if b then end else more) (onto cut word (items_of uses (item ∷ []))) cut) (sym h.over) (by_cut cut h) where
+comes_more host uses end word cut item given h = subst (λ (b : Bool). Comes host uses (if b then end else more) (onto cut word (items_of uses (item ∷ []))) cut) (sym h.over) (by_cut cut h) where
   more : WorldEnd
   more = record end { unread = end.unread ++ frame_spelling item.0; places = end.places ++ said_of item.1 ∷ [] }
 
@@ -160,6 +189,7 @@ comes_more host uses end word cut item h = subst (λ (b : Bool). Comes host uses
     gone = λ q. wrong q;
     answer = h.answer;
     written = h.written ++ item ∷ [];
+    given = given_more uses h.written item h.given given;
     bytes = λ q. sym (append_assoc (since_of end.number host) end.unread (frame_spelling item.0)) ∙ ap (λ (z : List ℕ). z ++ frame_spelling item.0) (h.bytes refl)
         ∙ append_assoc (answer_bytes h.answer) (flat_map (λ x. frame_spelling x.0) h.written) (frame_spelling item.0)
         ∙ ap (λ (z : List ℕ). answer_bytes h.answer ++ (flat_map (λ x. frame_spelling x.0) h.written ++ z)) (sym (append-nil (frame_spelling item.0)))
@@ -183,7 +213,7 @@ other_twice : (end : End) → other (other end) ≡ end
 other_twice O = refl
 other_twice T = refl
 
-write_now : (world : World) (place sock : ℕ) (cell : Cell) (name : SockName) (toward : End) (bytes : List ℕ) (said : Option Place) (socket : WorldSocket) → find_end place sock world.sockets ≡ Some (name, other toward)
+pub write_now : (world : World) (place sock : ℕ) (cell : Cell) (name : SockName) (toward : End) (bytes : List ℕ) (said : Option Place) (socket : WorldSocket) → find_end place sock world.sockets ≡ Some (name, other toward)
     → find (is_socket_named name) world.sockets ≡ Some socket → (stepped place cell (steps.Write sock bytes said) world).1 ≡ with_socket (Changed bytes said toward socket) world
 write_now world place sock cell name toward bytes said socket at found =
     ap (λ (o : Option (SockName × End)). (of_end (λ at now. (entries.Wrote at.0 at.1 bytes ∷ [], with_end_of at.0 (other at.1) (item_arrives bytes said) now)) world o).1) at
@@ -192,12 +222,12 @@ write_now world place sock cell name toward bytes said socket at found =
 
 -- ---- the scene
 
-same_number : (i j : ℕ) → nat_eq i j ≡ true → i ≡ j
+pub same_number : (i j : ℕ) → nat_eq i j ≡ true → i ≡ j
 same_number i j h = grind (arith, nat_tests)
 
 -- the way, where one frame more has come on the leg that the sending node is up on
-module _ (world now : World) (from to : ℕ) (legs : ℕ → Option Leg) (scene : Scene) (s : IsSceneOf world from to legs scene) (apart : AreSocketsApart legs) (item : Frame × Weight) (leg : Leg) (is : legs scene.way.on ≡ Some leg)
-    (uses : leg.uses ≡ scene.given) (c : Carries world scene.to.host leg (scene.way.flight scene.way.on) (scene.way.cut scene.way.on))
+module _ (world now : World) (from to : ℕ) (legs : ℕ → Option Leg) (scene : Scene) (w : IsWay world from to legs scene) (apart : AreSocketsApart legs) (item : Frame × Weight) (leg : Leg) (is : legs scene.way.on ≡ Some leg)
+    (uses : leg.uses ≡ scene.given) (given : IsGiven scene.given item.0) (c : Carries world scene.to.host leg (scene.way.flight scene.way.on) (scene.way.cut scene.way.on))
     (sockets : now.sockets ≡ store_in (Changed (frame_spelling item.0) (said_of item.1) leg.toward c.socket) world.sockets) where
   abbrev After : WorldSocket
   After = Changed (frame_spelling item.0) (said_of item.1) leg.toward c.socket
@@ -219,7 +249,7 @@ module _ (world now : World) (from to : ℕ) (legs : ℕ → Option Leg) (scene 
     comes = subst (λ (end : WorldEnd). Comes scene.to.host leg.uses end (onto (scene.way.cut scene.way.on) (scene.way.flight scene.way.on) (items_of scene.given (item ∷ []))) (scene.way.cut scene.way.on))
         (sym (end_kept (frame_spelling item.0) (said_of item.1) leg.toward c.socket))
         (subst (λ (given : List (Option Use)). Comes scene.to.host leg.uses (item_arrives (frame_spelling item.0) (said_of item.1) (end_of leg.toward c.socket)) (onto (scene.way.cut scene.way.on) (scene.way.flight scene.way.on) (items_of given (item ∷ []))) (scene.way.cut scene.way.on)) uses
-        (comes_more scene.to.host leg.uses (end_of leg.toward c.socket) (scene.way.flight scene.way.on) (scene.way.cut scene.way.on) item c.comes));
+        (comes_more scene.to.host leg.uses (end_of leg.toward c.socket) (scene.way.flight scene.way.on) (scene.way.cut scene.way.on) item (subst (λ (z : List (Option Use)). IsGiven z item.0) (sym uses) given) c.comes));
   }
 
   -- every other
@@ -234,22 +264,65 @@ module _ (world now : World) (from to : ℕ) (legs : ℕ → Option Leg) (scene 
   abbrev Word : List Item
   Word = onto (scene.way.cut scene.way.on) (scene.way.flight scene.way.on) (items_of scene.given (item ∷ []))
 
-  all_now : (i : ℕ) → OnLeg now scene.to.host (legs i) (put scene.way.on Word scene.way.flight i) (scene.way.cut i)
+  pub all_now : (i : ℕ) → OnLeg now scene.to.host (legs i) (put scene.way.on Word scene.way.flight i) (scene.way.cut i)
   all_now i = by_test (nat_eq i scene.way.on) refl where
     differ : (i j : ℕ) → nat_eq i j ≡ false → i ≡ j → ⊥
     differ i j h e = grind (arith, nat_tests)
 
     by_test : (b : Bool) → nat_eq i scene.way.on ≡ b → OnLeg now scene.to.host (legs i) (cond b Word (scene.way.flight i)) (scene.way.cut i)
     by_test true q = subst (λ (j : ℕ). OnLeg now scene.to.host (legs j) Word (scene.way.cut j)) (sym (same_number i scene.way.on q)) (subst (λ (o : Option Leg). OnLeg now scene.to.host o Word (scene.way.cut scene.way.on)) (sym is) carries_now)
-    by_test false q = others_now i (differ i scene.way.on q) (legs i) refl (s.way.carries i)
+    by_test false q = others_now i (differ i scene.way.on q) (legs i) refl (w.carries i)
 
-  is_on_now : (place sock : ℕ) (o : Option Leg) (given : List (Option Use)) → IsOn world place sock o given → IsOn now place sock o given
+  pub is_on_now : (place sock : ℕ) (o : Option Leg) (given : List (Option Use)) → IsOn world place sock o given → IsOn now place sock o given
   is_on_now place sock None given h = h
   is_on_now place sock (Some l) given h = (ends_now place sock ∙ h.0, h.1)
 
-  is_read_now : (place sock : ℕ) (o : Option Leg) (created : List (Option Use)) → IsReadAt world place sock o created → IsReadAt now place sock o created
+  pub is_read_now : (place sock : ℕ) (o : Option Leg) (created : List (Option Use)) → IsReadAt world place sock o created → IsReadAt now place sock o created
   is_read_now place sock None created h = h
   is_read_now place sock (Some l) created h = (ends_now place sock ∙ h.0, h.1)
+
+-- the scene after one frame is written there by the sending node, whose cell is this after it, with the link in the same state
+module _ (world : World) (from to : ℕ) (legs : ℕ → Option Leg) (scene : Scene) (s : IsSceneOf world from to legs scene) (apart : AreSocketsApart legs) (node : NodeState) (host : HostState) (cell : Cell)
+    (at : IsAt (record (scene.from) { node = node; host = host }) cell) (state : (link_with host scene.from.end scene.from.peer).state ≡ (link_of scene.from).state) (sock : ℕ) (probed : Bool) (up : (link_of scene.from).state ≡ Up sock probed)
+    (last : Option Place) (item : Frame × Weight) (given : IsGiven scene.given item.0) (log : List passages.Entry) where
+  -- the world with the cell
+  abbrev pub Before : World
+  Before = record (with_cell from (cell, s.sender.came) world) { last = last }
+
+  abbrev pub Wrote : World
+  Wrote = (stepped from cell (frame_step sock item) Before).1
+
+  abbrev pub Later : Scene
+  Later = record scene { from = record (scene.from) { node = node; host = host }; way = sent scene.given (item ∷ []) scene.way; log = log }
+
+  by_leg : (leg : Leg) → legs scene.way.on ≡ Some leg → (find_end from sock world.sockets ≡ Some (leg.socket, other leg.toward)) × (leg.uses ≡ scene.given)
+      → Carries world scene.to.host leg (scene.way.flight scene.way.on) (scene.way.cut scene.way.on) → IsSceneOf Wrote from to legs Later
+  by_leg leg is on carried =
+      let written = write_now Before from sock cell leg.socket leg.toward (frame_spelling item.0) (said_of item.1) carried.socket on.0 carried.found in
+      let sockets = ap (λ (w : World). w.sockets) written in
+      let cells = ap (λ (w : World). w.cells) written in
+      record {
+        sender = record {
+          cell = cell;
+          came = s.sender.came;
+          there = ap (λ z. slice_get z from) cells ∙ set_here world.cells from (cell, s.sender.came) (slice_get_within world.cells from (s.sender.cell, s.sender.came) s.sender.there);
+          at = at;
+        };
+        receiver = record { cell = s.receiver.cell; came = s.receiver.came; there = ap (λ z. slice_get z to) cells ∙ set_other world.cells from (cell, s.sender.came) to (λ e. s.apart (sym e)) ∙ s.receiver.there; at = s.receiver.at };
+        apart = s.apart;
+        way = record {
+          carries = λ i. all_now world Wrote from to legs scene s.way apart item leg is on.1 given carried sockets i;
+          on = λ other_sock other_probed other_up. is_on_now world Wrote from to legs scene s.way apart item leg is on.1 given carried sockets from other_sock (legs scene.way.on) scene.given (s.way.on other_sock other_probed (sym state ∙ other_up));
+          at = λ other_sock other_probed other_up. is_read_now world Wrote from to legs scene s.way apart item leg is on.1 given carried sockets to other_sock (legs scene.way.at) scene.created (s.way.at other_sock other_probed other_up);
+        };
+      }
+
+  by_way : (o : Option Leg) → legs scene.way.on ≡ o → IsOn world from sock o scene.given → OnLeg world scene.to.host o (scene.way.flight scene.way.on) (scene.way.cut scene.way.on) → IsSceneOf Wrote from to legs Later
+  by_way None is on carried = absurd on
+  by_way (Some leg) is on carried = by_leg leg is on carried
+
+  pub scene_written : IsSceneOf Wrote from to legs Later
+  scene_written = by_way (legs scene.way.on) refl (s.way.on sock probed up) (s.way.carries scene.way.on)
 
 -- ---- the line
 
@@ -258,55 +331,19 @@ module _ (names : List Name) (named_apart : views.AreApart names) (world : World
   abbrev P : Pair
   P = pair_at scene.from.node name
 
-  sent : IsWrittenAt names scene c name id sock said s.sender.cell
-  sent = is_written_at names named_apart scene c name conn id sock probed said h s.sender.cell sends
+  wrote : IsWrittenAt names scene c name id sock said s.sender.cell
+  wrote = is_written_at names named_apart scene c name conn id sock probed said h s.sender.cell sends
 
   abbrev Then : Cell
-  Then = cell_with s.sender.cell scene.from.end (keeping scene.from.node (with_said P)) sent.host
-
-  abbrev Now : World
-  Now = (wrote_in world from Then s.sender.came scene.from P id sock said).1
-
-  -- the world with the cell, where the message is the last one said
-  abbrev Said : World
-  Said = record (with_cell from (Then, s.sender.came) world) { last = Some (record { epoch = P.epoch; index = P.index }) }
-
-  abbrev Later : Scene
-  Later = written_in scene c P id said sent.host
-
-  by_leg : (leg : Leg) → legs scene.way.on ≡ Some leg → (find_end from sock world.sockets ≡ Some (leg.socket, other leg.toward)) × (leg.uses ≡ scene.given)
-      → Carries world scene.to.host leg (scene.way.flight scene.way.on) (scene.way.cut scene.way.on) → IsSceneOf Now from to legs Later
-  by_leg leg is on carried =
-      let written = write_now Said from sock Then leg.socket leg.toward (frame_spelling (frame_of id P said).0) (said_of (frame_of id P said).1) carried.socket on.0 carried.found in
-      let sockets = ap (λ (w : World). w.sockets) written in
-      let cells = ap (λ (w : World). w.cells) written in
-      record {
-        sender = record {
-          cell = Then;
-          came = s.sender.came;
-          there = ap (λ z. slice_get z from) cells ∙ set_here world.cells from (Then, s.sender.came) (slice_get_within world.cells from (s.sender.cell, s.sender.came) s.sender.there);
-          at = sent.at;
-        };
-        receiver = record { cell = s.receiver.cell; came = s.receiver.came; there = ap (λ z. slice_get z to) cells ∙ set_other world.cells from (Then, s.sender.came) to (λ e. s.apart (sym e)) ∙ s.receiver.there; at = s.receiver.at };
-        apart = s.apart;
-        way = record {
-          carries = λ i. all_now world Now from to legs scene s apart (frame_of id P said) leg is on.1 carried sockets i;
-          on = λ other_sock other_probed up. is_on_now world Now from to legs scene s apart (frame_of id P said) leg is on.1 carried sockets from other_sock (legs scene.way.on) scene.given
-              (s.way.on other_sock other_probed (sym (ap (λ (z : Link). z.state) sent.link) ∙ up));
-          at = λ other_sock other_probed up. is_read_now world Now from to legs scene s apart (frame_of id P said) leg is on.1 carried sockets to other_sock (legs scene.way.at) scene.created (s.way.at other_sock other_probed up);
-        };
-      }
-
-  by_way : (o : Option Leg) → legs scene.way.on ≡ o → IsOn world from sock o scene.given → OnLeg world scene.to.host o (scene.way.flight scene.way.on) (scene.way.cut scene.way.on) → IsSceneOf Now from to legs Later
-  by_way None is on carried = absurd on
-  by_way (Some leg) is on carried = by_leg leg is on carried
+  Then = cell_with s.sender.cell scene.from.end (keeping scene.from.node (with_said P)) wrote.host
 
   pub is_written_in : IsWrittenIn names world from to legs scene c name id sock said by target
   is_written_in = record {
-    host = sent.host;
+    host = wrote.host;
     cell = Then;
     came = s.sender.came;
-    answered = line_is world from scene.from name by target said l s.sender ∙ ap (cell_told from (s.sender.cell, s.sender.came) world) sent.answered;
-    now = by_way (legs scene.way.on) refl (s.way.on sock probed h.up) (s.way.carries scene.way.on);
-    seen = sent.seen;
+    answered = line_is world from scene.from name by target said l s.sender ∙ ap (cell_told from (s.sender.cell, s.sender.came) world) wrote.answered;
+    now = scene_written world from to legs scene s apart (keeping scene.from.node (with_said P)) wrote.host Then wrote.at (ap (λ (z : Link). z.state) wrote.link) sock probed h.up (Some (record { epoch = P.epoch; index = P.index })) (frame_of id P said)
+        (used_given scene.given id (record { pair = c; epoch = P.epoch }) h.used) (passages.Said c P.epoch P.index ∷ scene.log);
+    seen = wrote.seen;
   }

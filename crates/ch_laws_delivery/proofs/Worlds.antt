@@ -112,7 +112,7 @@ module _ (world now : World) (from to : ℕ) (legs : ℕ → Option Leg) (scene 
     clash : false ≡ true → ⊥
     clash e = cc
 
-  scene_still : (later : Scene) → later.from ≡ record (scene.from) { node = node; host = host } → later.to ≡ scene.to → later.way ≡ scene.way → later.created ≡ scene.created → IsSceneOf now from to legs later
+  pub scene_still : (later : Scene) → later.from ≡ record (scene.from) { node = node; host = host } → later.to ≡ scene.to → later.way ≡ scene.way → later.created ≡ scene.created → IsSceneOf now from to legs later
   scene_still later f t w c = record {
     sender = record { cell = cell; came = s.sender.came; there = ap (λ z. slice_get z from) cells ∙ set_here world.cells from (cell, s.sender.came) (slice_get_within world.cells from (s.sender.cell, s.sender.came) s.sender.there); at = subst (λ (p : Party). IsAt p cell) (sym f) at };
     receiver = record {
@@ -161,7 +161,7 @@ told_more world place cell came party pair said new = by_state (link_of party).s
 
 -- ---- the line
 
-abbrev hears_of : World → (ℕ → Answered) → Option ℕ → Answered
+abbrev pub hears_of : World → (ℕ → Answered) → Option ℕ → Answered
 hears_of world f None = nothing world
 hears_of world f (Some place) = f place
 

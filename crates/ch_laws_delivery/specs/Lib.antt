@@ -29,3 +29,6 @@ pub mod Worlds
 pub mod WorldRows
 pub mod QuietLines
 pub mod UpLines
+pub mod UpFirstLines
+pub mod AgainLines
+pub mod OverLines

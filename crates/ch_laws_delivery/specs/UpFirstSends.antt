@@ -9,6 +9,7 @@ use Rattle.ch_wire.specs.declared.frame.Frame.TheVariants as frames
 use Rattle.ch_model.specs.declared.step.Weight.{Weight}
 use Rattle.ch_model.specs.declared.step.Weight.TheVariants.{Free}
 use Rattle.ch_model.specs.HostState.{Link, HostState}
+use Rattle.ch_model.specs.HostSteps.{link_with}
 use Rattle.ch_model.specs.HostWrites.{frame_step}
 use Rattle.ch_model.specs.HostCalls.{open_endpoint, carries, short_enough, host_connect, host_send}
 use Rattle.ch_model.specs.NodeState as nodes
@@ -20,7 +21,7 @@ use Rattle.ch_model.specs.NodeSends.{payload_of, say}
 use Rattle.ch_delivery.specs.Moves.{Say, after}
 use Rattle.ch_laws_delivery.specs.Scene.{Name, Scene, link_of}
 use Rattle.ch_laws_delivery.specs.Sending.{has_ended, pair_at}
-use Rattle.ch_laws_delivery.specs.Sends.{weight_at}
+use Rattle.ch_laws_delivery.specs.Sends.{weight_at, IsSettled}
 use Rattle.ch_laws_delivery.specs.FirstSends.{opening_of, next_id, first_acts, first_after, first_in}
 use Rattle.ch_laws_delivery.specs.UpSends.{sent, frame_of}
 use Rattle.ch_laws_delivery.specs.View.{view}
@@ -53,15 +54,17 @@ created_frame link = (frames.Created (next_id link), Free)
 abbrev pub opening_frame : NodeState → Link → Pair → Frame × Weight
 opening_frame node link pair = (frames.Data (next_id link) (opening_of node pair), Free)
 
+-- all that is written
+abbrev pub first_frames : NodeState → Link → Pair → Message → List (Frame × Weight)
+first_frames node link pair said = created_frame link ∷ opening_frame node link pair ∷ frame_of (next_id link) pair said ∷ []
+
 -- the scene after it, where the host is this: the three frames are written
 abbrev pub opened_up_in : Scene → ℕ → Pair → ℕ → Message → HostState → Scene
-opened_up_in scene c pair conn said host = record (first_in scene c pair conn host) {
-  way = sent (first_in scene c pair conn host).given
-      (created_frame (link_of scene.from) ∷ opening_frame scene.from.node (link_of scene.from) pair ∷ frame_of (next_id (link_of scene.from)) pair said ∷ []) scene.way;
-}
+opened_up_in scene c pair conn said host = record (first_in scene c pair conn host) { way = sent (first_in scene c pair conn host).given (first_frames scene.from.node (link_of scene.from) pair said) scene.way }
 
--- The node says it, the host writes that the connection is created, its opening and the message, and nothing more; and what
--- is seen then is the passage after the move.
+-- The node says it, the host writes that the connection is created, its opening and the message, and nothing more; the link has
+-- the connection and else is as it was, nothing more can be read than before, and what is seen then is the passage after the
+-- move.
 pub record IsWrittenFirst (names : List Name) (scene : Scene) (c : ℕ) (name : Name) (conn sock : ℕ) (said : Message) : Type 0 where
   pub connected : HostState
   pub told : HostState
@@ -72,4 +75,6 @@ pub record IsWrittenFirst (names : List Name) (scene : Scene) (c : ℕ) (name : 
       ≡ Ok (frame_step sock (opening_frame scene.from.node (link_of scene.from) (pair_at scene.from.node name)) ∷ [], told)
   pub host_writes : host_send told scene.from.end conn (payload_of (pair_at scene.from.node name).to said) (weight_at (pair_at scene.from.node name))
       ≡ Ok (frame_step sock (frame_of (next_id (link_of scene.from)) (pair_at scene.from.node name) said) ∷ [], host)
+  pub settled : IsSettled scene.from.host → IsSettled host
+  pub link : link_with host scene.from.end scene.from.peer ≡ record (link_of scene.from) { given = (link_of scene.from).given ++ opened conn ∷ [] }
   pub seen : view names (opened_up_in scene c (pair_at scene.from.node name) conn said host) ≡ after (Say c) (view names scene)

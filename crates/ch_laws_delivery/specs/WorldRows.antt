@@ -1,5 +1,6 @@
 -- Small worlds of two nodes in cells of their own.
 use Rattle.std.specs.Prelude.{ℕ, true, nat_eq, false, List, [], ◌∷◌, ◌++◌, Option, Some, None}
+use Rattle.ch_link.specs.declared.LinkState.TheVariants.{Up}
 use Rattle.ch_mail.specs.declared.life.Life.TheVariants.{Live}
 use Rattle.ch_model.specs.declared.act.Act.{Act}
 use Rattle.ch_model.specs.declared.act.Act.TheVariants as acts
@@ -15,7 +16,7 @@ use Rattle.ch_model.specs.declared.name.TargetName.TheVariants as targets
 use Rattle.ch_model.specs.WorldState.{Cell, WorldEnd, WorldSocket, World}
 use Rattle.ch_laws_delivery.specs.Scene.{Party, Scene}
 use Rattle.ch_laws_delivery.specs.Worlds.{Leg}
-use Rattle.ch_laws_delivery.specs.Rows.{here, there, the_use, bound_there, up_with}
+use Rattle.ch_laws_delivery.specs.Rows.{here, there, host_at, link_to, way_with, at_start, the_use, bound_there, up_with}
 
 -- the cell that has a party alone
 abbrev pub cell_of_party : Party → Cell
@@ -71,3 +72,17 @@ up_legs i = elim (nat_eq i 1) [ true ↦ Some the_leg | false ↦ None ]
 -- a message was said and got, and both are up
 abbrev pub both_up : Scene
 both_up = up_with bound_there []
+
+-- both are up on it, and nothing was said yet
+abbrev pub both_fresh : Scene
+both_fresh = record at_start {
+  from = record (at_start.from) { host = host_at here (link_to there (Up 0 false) [] [] ∷ []) };
+  to = record (at_start.to) { host = host_at there (link_to here (Up 1 false) [] [] ∷ []) };
+  way = way_with 1 [];
+}
+
+abbrev pub fresh_leg : Leg
+fresh_leg = record the_leg { uses = [] }
+
+abbrev pub fresh_legs : ℕ → Option Leg
+fresh_legs i = elim (nat_eq i 1) [ true ↦ Some fresh_leg | false ↦ None ]

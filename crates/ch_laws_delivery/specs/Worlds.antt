@@ -32,7 +32,7 @@ use Rattle.ch_delivery.specs.Moves.{Say, after}
 use Rattle.ch_laws_delivery.specs.Scene.{Name, Use, Party, Scene, link_of}
 use Rattle.ch_laws_delivery.specs.Sending.{pair_at, items_of}
 use Rattle.ch_laws_delivery.specs.Sends.{said_in}
-use Rattle.ch_laws_delivery.specs.FirstSends.{first_in}
+use Rattle.ch_laws_delivery.specs.FirstSends.{AreGiven, first_in}
 use Rattle.ch_laws_delivery.specs.Cells.{IsAt, sent_entries}
 use Rattle.ch_laws_delivery.specs.View.{view}
 
@@ -72,12 +72,13 @@ answer_places true = None ∷ []
 answer_places false = []
 
 -- What comes to an end of a host: it is over or cut, and nothing comes any more; or what was handed to the host and what is
--- unread, together, are frames, perhaps behind an answer, with the places of their messages.
+-- unread, together, are frames, perhaps behind an answer, with the places of their messages, on ids that were given.
 pub record Comes (host : HostState) (uses : List (Option Use)) (end : WorldEnd) (word : List Item) (cut : Bool) : Type 0 where
   pub over : (is_ended end.stage || end.is_cut) ≡ cut
   pub gone : cut ≡ true → word ≡ []
   pub answer : Bool
   pub written : List (Frame × Weight)
+  pub given : AreGiven uses written
   pub bytes : cut ≡ false → since_of end.number host ++ end.unread ≡ answer_bytes answer ++ flat_map (λ item. frame_spelling item.0) written
   pub places : cut ≡ false → end.places ≡ answer_places answer ++ map (λ item. said_of item.1) written
   pub items : cut ≡ false → word ≡ items_of uses written

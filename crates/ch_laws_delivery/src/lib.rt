@@ -3,8 +3,8 @@
 //!
 //! No code: definitions of the view, and laws as clauses of empty functions. The whole model stands below, and the
 //! machine with its laws. What a node and its host do at one event is shown to be a move, event by event; and so are lines of
-//! a world by which a process sends, takes a message, opens a port or is made. Of every other line that is open, and that
-//! all that is asked here of a scene holds in a world.
+//! a world by which a process sends, reconnects, is over, takes a message, opens a port or is made. Of every other line that is
+//! open, and that all that is asked here of a scene holds in a world.
 #![tactic(auto)]
 
 ghost use Rattle.std.specs.Prelude.{◌≡◌, ◌<◌, ℕ, Bool, true, false, is_some, List, [], ◌∷◌, Option, Ok};
@@ -12,15 +12,20 @@ ghost use Rattle.ch_base.specs.declared.event.Room.{Room};
 ghost use Rattle.ch_base.specs.declared.event.Why.{Why};
 ghost use Rattle.ch_base.specs.declared.event.Why.TheVariants.{Disconnect, NodeDown};
 ghost use Rattle.ch_model.specs.NodePairs.{lost_pairs};
+ghost use Rattle.ch_static.specs.declared.command.Command.TheVariants as commands;
 ghost use Rattle.ch_static.specs.declared.command.Command.TheVariants.{Receive, Take, OpenPort, Register, Unregister};
 ghost use Rattle.ch_model.specs.declared.act.Act.{Act};
 ghost use Rattle.ch_model.specs.declared.note.Origin.{Origin};
 ghost use Rattle.ch_model.specs.Node.{node_make, node_command};
 ghost use Rattle.ch_model.specs.declared.line.What.{What};
-ghost use Rattle.ch_model.specs.declared.line.What.TheVariants.{Proc};
+ghost use Rattle.ch_model.specs.declared.line.What.TheVariants.{Proc, End};
 ghost use Rattle.ch_model.specs.declared.local.LocalEvent.{LocalEvent};
-ghost use Rattle.ch_model.specs.declared.local.LocalEvent.TheVariants.{Make};
+ghost use Rattle.ch_model.specs.declared.local.LocalEvent.TheVariants.{Make, Command};
 ghost use Rattle.ch_laws_delivery.specs.UpLines.{IsWrittenAt, AreSocketsApart, IsWrittenIn};
+ghost use Rattle.ch_laws_delivery.specs.UpFirstLines.{IsWrittenFirstAt, IsWrittenFirstIn};
+ghost use Rattle.ch_laws_delivery.specs.AgainLines.{IsReconnectedIn, IsClosedIn};
+ghost use Rattle.ch_model.specs.NodeRoom.{acting};
+ghost use Rattle.ch_laws_delivery.specs.OverLines.{IsLeftBy, IsOverIn};
 ghost use Rattle.ch_laws_delivery.specs.QuietLines.{AreNotes, IsToldBy, IsToldIn, IsStoodIn};
 ghost use Rattle.ch_model.specs.NodeLives.{make};
 ghost use Rattle.ch_model.specs.NodeEnds.{over};
@@ -45,8 +50,8 @@ ghost use Rattle.ch_model.specs.declared.name.TargetName.{TargetName};
 ghost use Rattle.ch_laws_delivery.specs.Worlds.{Leg, IsSceneOf, NamesAreNew, IsLineOf, IsSentIn, IsSentFirstIn};
 ghost use Rattle.ch_laws_delivery.specs.Cells.{Sends, SendsFirst, IsSentAt, IsSentFirstAt};
 ghost use Rattle.ch_laws_delivery.specs.Shuts.{IsShut, IsShutThere, IsShutOff};
-ghost use Rattle.ch_laws_delivery.specs.WorldRows.{cell_of_party, world_with, no_legs, the_process, the_target, acts_of_proc, after_proc, up_sockets, up_legs, both_up};
-ghost use Rattle.ch_laws_delivery.specs.EndingRows.{broken_once, the_parting, over_here};
+ghost use Rattle.ch_laws_delivery.specs.WorldRows.{cell_of_party, world_with, no_legs, the_process, the_target, acts_of_proc, after_proc, up_sockets, up_legs, both_up, fresh_legs, both_fresh};
+ghost use Rattle.ch_laws_delivery.specs.EndingRows.{broken_once, the_parting, over_here, farewells_here};
 ghost use Rattle.ch_laws_delivery.specs.Rises.{ComesUp, IsRisen, IsCome};
 ghost use Rattle.ch_laws_delivery.specs.Losses.{Fails, LosesSocket, IsBroken};
 ghost use Rattle.ch_laws_delivery.specs.Falls.{IsFallen};
@@ -249,18 +254,20 @@ pub fn shut_at_a_node()
 
 /// A cell in which the sending node is, where no whole item is unread, makes of the command by which a process sends just that.
 /// While the link isn't up, on an open connection or as the first of an epoch, it answers `ok`, the message is said, and the
-/// host dials where nobody does; on an open connection while the link is up the message's frame is written instead. What is
-/// seen then, with the cell's host and node, is the passage after the move.
+/// host dials where nobody does; while the link is up the message's frame is written instead, and for the first of an epoch
+/// that its connection is created and its opening before it. What is seen then, with the cell's host and node, is the passage
+/// after the move.
 pub fn sent_at_a_cell()
     ensures later { (names : List Name) → AreApart names → (scene : Scene) (c : ℕ) (name : Name) (conn id : ℕ) (said : Message) → SaysOnOpen names scene c name conn id said → (cell : Cell) → Sends scene name cell → IsSentAt names scene c name said cell }
     ensures first { (names : List Name) → AreApart names → (scene : Scene) (c : ℕ) (name : Name) (conn : ℕ) (said : Message) → SaysFirst names scene c name conn said → (cell : Cell) → SendsFirst scene name cell → IsSentFirstAt names scene c name conn said cell }
     ensures up { (names : List Name) → AreApart names → (scene : Scene) (c : ℕ) (name : Name) (conn id sock : ℕ) (probed : Bool) (said : Message) → SaysUp names scene c name conn id sock probed said → (cell : Cell) → Sends scene name cell → IsWrittenAt names scene c name id sock said cell }
+    ensures first_up { (names : List Name) → AreApart names → (scene : Scene) (c : ℕ) (name : Name) (conn sock : ℕ) (probed : Bool) (said : Message) → SaysFirstUp names scene c name conn sock probed said → (cell : Cell) → SendsFirst scene name cell → IsWrittenFirstAt names scene c name conn sock said cell }
 {}
 
-/// A line by which a process sends to another node, on an open connection or as the first of an epoch while the link isn't up,
-/// or on an open connection while it is, in a world that has the scene of the two nodes: the line is answered `ok`, the world
-/// after it has the scene after it, with the way between as the same sockets' bytes, and where the link is up with the frame's
-/// bytes behind what is unread; and what is seen then is the passage after the move.
+/// A line by which a process sends to another node, on an open connection or as the first of an epoch, while the link isn't up
+/// or while it is, in a world that has the scene of the two nodes: the line is answered `ok`, the world after it has the scene
+/// after it, with the way between as the same sockets' bytes, and where the link is up with the frames' bytes behind what is
+/// unread, and for the first of an epoch with one id more on the leg; and what is seen then is the passage after the move.
 pub fn sent_by_a_line()
     ensures later { (names : List Name) → AreApart names → (world : World) (from to : ℕ) (legs : ℕ → Option Leg) (scene : Scene) (c : ℕ) (name : Name) (conn id : ℕ) (said : Message) (by : ProcName) (target : TargetName)
         → (s : IsSceneOf world from to legs scene) → NamesAreNew world → IsLineOf world from scene.from name by target → SaysOnOpen names scene c name conn id said → Sends scene name s.sender.cell → IsSentIn names world from to legs scene c name said by target }
@@ -268,6 +275,28 @@ pub fn sent_by_a_line()
         → (s : IsSceneOf world from to legs scene) → NamesAreNew world → IsLineOf world from scene.from name by target → SaysFirst names scene c name conn said → SendsFirst scene name s.sender.cell → IsSentFirstIn names world from to legs scene c name conn said by target }
     ensures up { (names : List Name) → AreApart names → (world : World) (from to : ℕ) (legs : ℕ → Option Leg) (scene : Scene) (c : ℕ) (name : Name) (conn id sock : ℕ) (probed : Bool) (said : Message) (by : ProcName) (target : TargetName)
         → (s : IsSceneOf world from to legs scene) → AreSocketsApart legs → IsLineOf world from scene.from name by target → SaysUp names scene c name conn id sock probed said → Sends scene name s.sender.cell → IsWrittenIn names world from to legs scene c name id sock said by target }
+    ensures first_up { (names : List Name) → AreApart names → (world : World) (from to : ℕ) (legs : ℕ → Option Leg) (scene : Scene) (c : ℕ) (name : Name) (conn sock : ℕ) (probed : Bool) (said : Message) (by : ProcName) (target : TargetName)
+        → (s : IsSceneOf world from to legs scene) → AreSocketsApart legs → IsLineOf world from scene.from name by target → SaysFirstUp names scene c name conn sock probed said → SendsFirst scene name s.sender.cell → IsWrittenFirstIn names world from to legs scene c name conn sock said by target }
+{}
+
+/// A line by which a process that acts reconnects to a target at another node, where the pair has an open connection, in a world
+/// that has the scene of the two nodes: the line is answered `ok`, the world after it has the scene after it, with the same
+/// legs, where the connection's close waits, or while the link is up comes behind what is unread; and what is seen then is the
+/// passage after the move.
+pub fn reconnected_by_a_line()
+    ensures down { (names : List Name) → AreApart names → (world : World) (from to : ℕ) (legs : ℕ → Option Leg) (scene : Scene) (c : ℕ) (name : Name) (conn id : ℕ) (table : List Connection) (by : ProcName) (target : TargetName)
+        → IsSceneOf world from to legs scene → IsLineOf world from scene.from name by target → acting scene.from.node name.by ≡ Ok tt → ReconnectsOpen names scene c name conn id table → IsReconnectedIn names world from to legs scene c name id table by target }
+    ensures up { (names : List Name) → AreApart names → (world : World) (from to : ℕ) (legs : ℕ → Option Leg) (scene : Scene) (c : ℕ) (name : Name) (conn id sock : ℕ) (probed : Bool) (table : List Connection) (by : ProcName) (target : TargetName)
+        → IsSceneOf world from to legs scene → AreSocketsApart legs → IsLineOf world from scene.from name by target → acting scene.from.node name.by ≡ Ok tt → ReconnectsUp names scene c name conn id sock probed table → IsClosedIn names world from to legs scene c name id sock table by target }
+{}
+
+/// A line by which a process of the sending node is over, in a world that has the scene of the two nodes, where the node tells
+/// something and closes connections on the link with the peer, and asks nothing more of its host: it is answered `ok`, the
+/// world after it has the scene after it, with the same legs, where each close waits, or while the link is up comes behind what
+/// is unread; and what is seen then is the passage after the pairs of the process are finished.
+pub fn over_by_a_line()
+    ensures { (names : List Name) (world : World) (from to : ℕ) (legs : ℕ → Option Leg) (scene : Scene) (what : What) (event : LocalEvent) (did : List Act) (after : NodeState) (number : ℕ) (ps : List Parting) (others : List ℕ)
+        → IsSceneOf world from to legs scene → AreSocketsApart legs → IsLeftBy world from scene.from what event did after ps → EndsWith names scene number after ps others → IsOverIn names world from to legs scene what did after ps others }
 {}
 
 /// A line that a node answers by telling something, and asks nothing of its host, as those of `own_mail`, in a world that has
@@ -326,8 +355,8 @@ pub fn endings()
     ensures ending { EndsWith the_names (said_once (Up 0 false)) 0 over_here (the_parting ∷ []) [] }
 {}
 
-/// The same of worlds: two nodes in cells of their own, where nothing was said yet, where one message waits, and where both are
-/// up; a line sends in each, and a process is made.
+/// The same of worlds: two nodes in cells of their own, where nothing was said yet, where one message waits, where both are
+/// up after a message, and where both are up and nothing was said; a line sends in each, and a process is made.
 pub fn sending_worlds()
     ensures new { NamesAreNew (world_with at_start []) }
     ensures scene { IsSceneOf (world_with at_start []) 0 1 no_legs at_start }
@@ -340,5 +369,14 @@ pub fn sending_worlds()
     ensures up { Sends both_up the_name (cell_of_party both_up.from) }
     ensures up_says { SaysUp the_names both_up 0 the_name 0 1024 0 false hello }
     ensures up_line { IsLineOf (world_with both_up up_sockets) 0 both_up.from the_name the_process the_target }
+    ensures later_line { IsLineOf (world_with (said_once (Dialing 0)) []) 0 (said_once (Dialing 0)).from the_name the_process the_target }
+    ensures up_reconnects { ReconnectsUp the_names both_up 0 the_name 0 1024 0 false (closed 0 ∷ []) }
+    ensures up_ends { IsLeftBy (world_with both_up up_sockets) 0 both_up.from (End the_process) (Command 7 0 commands.End) farewells_here over_here (the_parting ∷ []) }
+    ensures up_ending { EndsWith the_names both_up 0 over_here (the_parting ∷ []) [] }
+    ensures fresh_scene { IsSceneOf (world_with both_fresh up_sockets) 0 1 fresh_legs both_fresh }
+    ensures fresh_apart { AreSocketsApart fresh_legs }
+    ensures fresh { SendsFirst both_fresh the_name (cell_of_party both_fresh.from) }
+    ensures fresh_says { SaysFirstUp the_names both_fresh 0 the_name 0 0 false hello }
+    ensures fresh_line { IsLineOf (world_with both_fresh up_sockets) 0 both_fresh.from the_name the_process the_target }
     ensures later { Sends (said_once (Dialing 0)) the_name (cell_of_party (said_once (Dialing 0)).from) }
 {}

@@ -1,5 +1,6 @@
 use Rattle.ch_laws_delivery.proofs.Worlds.{is_sent_in, is_sent_first_in}
 use Rattle.ch_laws_delivery.proofs.UpWorlds.{is_written_in}
+use Rattle.ch_laws_delivery.proofs.UpFirstWorlds.{is_written_first_in}
 use Rattle.ch_laws_delivery.proofs.sent_by_a_line.Goals as goal
 
 pub returns-clause-later : goal.returns-clause-later
@@ -10,3 +11,6 @@ returns-clause-first z = λ names apart world from to legs scene c name conn sai
 
 pub returns-clause-up : goal.returns-clause-up
 returns-clause-up z = λ names named_apart world from to legs scene c name conn id sock probed said by target s apart l h sends. is_written_in names named_apart world from to legs scene c name conn id sock probed said by target s apart l h sends
+
+pub returns-clause-first_up : goal.returns-clause-first_up
+returns-clause-first_up z = λ names named_apart world from to legs scene c name conn sock probed said by target s apart l h sends. is_written_first_in names named_apart world from to legs scene c name conn sock probed said by target s apart l h sends
