@@ -1,0 +1,34 @@
+-- Names that are declared, each at an address of its own, and the lines of declared nodes.
+use Rattle.std.specs.Prelude.{◌≡◌, ℕ, Bool, ◌&&◌, List, [], ◌∷◌, find, is_some, None}
+use Rattle.ch_watch.specs.Same.{same_node}
+use Rattle.ch_model.specs.declared.line.What.{What}
+use Rattle.ch_model.specs.declared.line.What.TheVariants as lines
+use Rattle.ch_model.specs.Naming.{is_named}
+use Rattle.ch_model.specs.Same.{node_of}
+use Rattle.ch_model.specs.WorldState.{Named}
+use Rattle.ch_laws_log.specs.Lines.{is_of_network}
+
+-- no two names are at one address
+abbrev pub AreApart : List Named → Type 0
+AreApart [] = Unit {0}
+AreApart (named ∷ rest) = (find (λ (other : Named). same_node named.address other.address) rest ≡ None) × AreApart rest
+
+-- the name is declared
+abbrev pub is_declared : List Named → List ℕ → Bool
+is_declared known name = is_some (find (is_named name) known)
+
+-- The line is of a declared node that is shut or makes a process, or of a process of one: what it says, takes and
+-- opens, and its end. What it says is to a target of a declared node. Or it is of the network.
+abbrev pub begins_own : List Named → What → Bool
+begins_own known (lines.Proc node) = is_declared known node
+begins_own known (lines.Shut node) = is_declared known node
+begins_own known (lines.Send by to mark body) = is_declared known by.node && is_declared known (node_of to)
+begins_own known (lines.Nsend by to mark body) = is_declared known by.node && is_declared known (node_of to)
+begins_own known (lines.Again by to) = is_declared known by.node && is_declared known (node_of to)
+begins_own known (lines.Recv by mark) = is_declared known by.node
+begins_own known (lines.Port by) = is_declared known by.node
+begins_own known (lines.Take by port) = is_declared known by.node
+begins_own known (lines.End by) = is_declared known by.node
+begins_own known (lines.Fail by text) = is_declared known by.node
+begins_own known (lines.Fall by) = is_declared known by.node
+begins_own known what = is_of_network what
