@@ -1,9 +1,8 @@
 -- What a node does where it does what was asked begins with telling it.
-use Rattle.std.proofs.Common.{◌≡◌, ℕ, Bool, true, false, cond, not, ◌&&◌, List, [], ◌∷◌, ◌++◌, map, Ok, Err, refl, sym, ap, ◌∙◌, subst, ◌==◌}
-use Rattle.std.specs.Prelude.{Result, Option, Some, None}
+use Rattle.std.proofs.Common.{◌≡◌, ℕ, Bool, true, false, cond, List, [], ◌∷◌, ◌++◌, map, Ok, Err}
+use Rattle.std.specs.Prelude.{Result, Some, None, ok_or}
 use Rattle.std.specs.Str.{bytes_eq}
 use Rattle.ch_base.specs.declared.event.Room.{Room}
-use Rattle.ch_base.specs.declared.memory.Stop.{Stop}
 use Rattle.ch_ident.specs.declared.message.Message.{Message}
 use Rattle.ch_ident.specs.declared.reason.Reason.{Reason}
 use Rattle.ch_ident.specs.declared.reason.Reason.TheVariants as reasons
@@ -11,22 +10,28 @@ use Rattle.ch_mail.specs.declared.error.MailError.{MailError}
 use Rattle.ch_mail.specs.Process.{Process}
 use Rattle.ch_mail.specs.Mail.{make_of, end_of, take_of, take_port_of, open_port_of, downed}
 use Rattle.ch_static.specs.declared.target.Target.{Target}
-use Rattle.ch_watch.specs.Watches.{ended_of}
+use Rattle.ch_ident.specs.declared.identifier.Identifier.TheVariants as ends
+use Rattle.ch_ident.specs.declared.identifier.ProcessId.{ProcessId}
+use Rattle.ch_ident.specs.declared.identifier.Ref.{Ref}
+use Rattle.ch_watch.specs.declared.waiting.Kind.{Kind}
+use Rattle.ch_watch.specs.Same.{node_of}
+use Rattle.ch_watch.specs.Watches.{ended_of, watch_of, unwatch_of, register_of, unregister_of}
 use Rattle.ch_model.specs.declared.act.Act.{Act}
 use Rattle.ch_model.specs.declared.act.Act.TheVariants as acts
-use Rattle.ch_model.specs.declared.command.CommandError.{CommandError}
 use Rattle.ch_model.specs.declared.command.CommandError.TheVariants as errors
 use Rattle.ch_model.specs.declared.note.Note.{Note}
 use Rattle.ch_model.specs.declared.note.Note.TheVariants as notes
 use Rattle.ch_model.specs.NodeState.{NodeState, Pair}
-use Rattle.ch_model.specs.NodeActs.{◌>>=◌, Done, after, ◌and_then◌, each_in_turn, stopping, mailed, or_unchanged, growing}
-use Rattle.ch_model.specs.NodeIds.{process_id}
+use Rattle.ch_model.specs.NodeActs.{◌>>=◌, Done, after, each_in_turn, stopping, mailed, watching, or_unchanged, growing}
+use Rattle.ch_model.specs.NodeIds.{process_id, reference_to}
 use Rattle.ch_model.specs.NodePairs.{pair_of, keeping, next_epoch}
 use Rattle.ch_model.specs.NodeLives.{make}
-use Rattle.ch_model.specs.NodeWatches.{tell_end}
+use Rattle.ch_model.specs.NodeWatches.{tell_end, watch_under}
 use Rattle.ch_model.specs.NodeEnds.{over, bereft, farewell, shut_lists}
 use Rattle.ch_model.specs.NodeSends.{carry, payload_of, weight_of, with_said, say, reconnect}
-use Rattle.ch_model.specs.NodeRoom.{acting, falling, known, fitting, room_to_send}
+use Rattle.ch_model.specs.NodeRoom.{acting, falling, known, fitting, not_full, room_to_send}
+use Rattle.ch_model.specs.NodeMessages.{ask}
+use Rattle.ch_model.specs.NodeRequests.{watch_message, unwatch_message, watch, watch_by, unwatch_by, register_by, unregister_by}
 use Rattle.ch_model.specs.NodeCommands.{send_of, again_of, receive_of, take_port, open_port, finish_of, fall_of}
 use Rattle.ch_model.specs.Node.{node_make, node_shut}
 use Rattle.ch_laws_log.proofs.Takes.{TakenMarked, taken_marked}
@@ -122,3 +127,23 @@ finish_first P node by reason p = bound P (acting node by) _ (λ live. stopped P
 pub fall_first : (P : Note → Type 0) (node : NodeState) (by : ℕ) → ((reason : Reason) → P (notes.Over (process_id node by) reason)) → Begun P (fall_of node by)
 unfolding fall_of
 fall_first P node by p = bound P (falling node by) _ (λ text. stopped P (over node by (reasons.Exception text)) (over_first P node by (reasons.Exception text) (p (reasons.Exception text))))
+
+-- ---- watches and names
+
+pub watch_first : (P : Note → Type 0) (node : NodeState) (by : ℕ) (kind : Kind) (target : ProcessId) (room : Room) → ((n : ℕ) → P (notes.Watch (reference_to node n) (process_id node by) target kind)) → Begun P (watch_by node by kind target room)
+unfolding watch_by watch
+watch_first P node by kind target room p = bound P (acting node by) _ (λ live. bound P (not_full node target.node room) _ (λ roomy. stopped P (watch node by kind target) (bound P (watch_of node.watches by kind (ends.Process target)) _ (λ opened.
+    later P (acts.Note (notes.Watch (reference_to node opened.0) (process_id node by) target kind) ∷ []) (ask (record node { watches = opened.1 }) target.node (watch_message kind (reference_to node opened.0) target)) (p opened.0)))))
+
+pub unwatch_first : (P : Note → Type 0) (node : NodeState) (by : ℕ) (given : Ref) (room : Room) → P (notes.Unwatch given) → Begun P (unwatch_by node by given room)
+unfolding unwatch_by
+unwatch_first P node by given room p = bound P (acting node by) _ (λ live. bound P (ok_or (watch_under node by given) errors.NoRef) _ (λ waiting. bound P (not_full node (node_of waiting.target) room) _ (λ roomy. bound P (watching (unwatch_of node.watches by given.number)) _ (λ closed.
+    stopped P _ (later P (acts.Note (notes.Unwatch given) ∷ []) (ask (record node { watches = closed.1 }) (node_of waiting.target) (unwatch_message waiting.kind given)) p)))))
+
+pub register_first : (P : Note → Type 0) (node : NodeState) (by : ℕ) (name : List ℕ) → P (notes.Named node.own name (Some (process_id node by))) → Begun P (register_by node by name)
+unfolding register_by
+register_first P node by name p = bound P (acting node by) _ (λ live. bound P (watching (register_of node.watches name by)) _ (λ lists. p))
+
+pub unregister_first : (P : Note → Type 0) (node : NodeState) (by : ℕ) (name : List ℕ) → P (notes.Named node.own name None) → Begun P (unregister_by node by name)
+unfolding unregister_by
+unregister_first P node by name p = bound P (acting node by) _ (λ live. bound P (watching (unregister_of node.watches name)) _ (λ taken. p))

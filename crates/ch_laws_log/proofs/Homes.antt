@@ -4,7 +4,7 @@ use Rattle.std.proofs.Common.{◌≡◌, ℕ, zero, suc, Bool, true, false, cond
 use Rattle.std.proofs.lemmas.Bool.{and_parts}
 use Rattle.std.proofs.lemmas.List.Quantifiers.{position-Some}
 use Rattle.std.proofs.lemmas.Slice.Eq.{bytes_eq-Decides}
-use Rattle.std.specs.Prelude.{find, is_some, position, slice_get, get_or, Option, Some, None, ◌==◌}
+use Rattle.std.specs.Prelude.{find, is_some, slice_get, get_or, Option, Some, None, ◌==◌}
 use Rattle.std.specs.List.{list_any}
 use Rattle.std.specs.Str.{bytes_eq}
 use Rattle.ch_base.specs.declared.address.Address.{Address}
@@ -17,15 +17,15 @@ use Rattle.ch_model.specs.CellSteps.{is_at}
 use Rattle.ch_model.specs.HostCalls.{host_new, host_open}
 use Rattle.ch_model.specs.HostState.{HostState}
 use Rattle.ch_model.specs.HostSteps.{is_endpoint}
-use Rattle.ch_model.specs.Naming.{Names, is_named, named_as, or_nobody, address_as, called}
+use Rattle.ch_model.specs.Naming.{Names, is_named, or_nobody, address_as, called}
 use Rattle.ch_model.specs.Node.{node_new}
 use Rattle.ch_model.specs.NodeState.{NodeState}
 use Rattle.ch_model.specs.Settle.{Happened}
 use Rattle.ch_model.specs.World.{names_of, cell_at, world_new, world_step}
 use Rattle.ch_model.specs.WorldSockets.{is_host_of, cell_of}
 use Rattle.ch_model.specs.WorldState.{Cell, Named, World}
-use Rattle.ch_laws_items.specs.Stays.{Who, who_is, seats_of}
-use Rattle.ch_laws_world.specs.Grows.{Home, home_of, homes_of, Numbered, Grows}
+use Rattle.ch_laws_items.specs.Stays.{Who, seats_of}
+use Rattle.ch_laws_world.specs.Grows.{Home, home_of, homes_of, Numbered}
 use Rattle.ch_laws_world.proofs.Journals.{step_grows, grown}
 use Rattle.ch_laws_log.specs.Declared.{AreApart, is_declared}
 use Rattle.ch_laws_log.proofs.Kept.{LedOn}

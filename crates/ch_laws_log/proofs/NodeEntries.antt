@@ -1,15 +1,14 @@
 -- What a line asks of a declared node, where it is done, begins with the line's own entry.
-use Rattle.std.proofs.Common.{◌≡◌, ℕ, Bool, true, false, cond, not, ◌&&◌, ◌||◌, List, [], ◌∷◌, ◌++◌, Ok, Err, refl, sym, ap, ◌∙◌, subst, ◌==◌}
+use Rattle.std.proofs.Common.{◌≡◌, ℕ, Bool, true, false, ◌&&◌, List, [], ◌∷◌, ◌++◌, Ok, Err, refl, sym, ap, ◌∙◌, subst, ◌==◌}
 use Rattle.std.proofs.lemmas.Bool.{and_parts}
 use Rattle.std.specs.Prelude.{find, slice_get, Result, Option, Some, None}
 use Rattle.std.specs.Str.{bytes_eq}
 use Rattle.ch_base.specs.declared.address.Address.{Address}
-use Rattle.ch_ident.specs.declared.message.Message.{Message}
-use Rattle.ch_ident.specs.declared.reason.Reason.{Reason}
 use Rattle.ch_ident.specs.declared.reason.Reason.TheVariants as reasons
 use Rattle.ch_static.specs.declared.command.Command.{Command}
 use Rattle.ch_static.specs.declared.command.Command.TheVariants as commands
 use Rattle.ch_static.specs.declared.target.Target.{Target}
+use Rattle.ch_watch.specs.declared.waiting.Kind.TheVariants as kinds
 use Rattle.ch_model.specs.declared.act.Act.{Act}
 use Rattle.ch_model.specs.declared.act.Act.TheVariants as acts
 use Rattle.ch_model.specs.declared.command.CommandError.{CommandError}
@@ -25,16 +24,17 @@ use Rattle.ch_model.specs.declared.local.LocalEntry.TheVariants as local
 use Rattle.ch_model.specs.declared.local.LocalEvent.{LocalEvent}
 use Rattle.ch_model.specs.declared.local.LocalEvent.TheVariants as events
 use Rattle.ch_model.specs.declared.name.ProcName.{ProcName}
+use Rattle.ch_model.specs.declared.name.RefName.{RefName}
 use Rattle.ch_model.specs.declared.name.TargetName.{TargetName}
 use Rattle.ch_model.specs.declared.name.TargetName.TheVariants as names
 use Rattle.ch_model.specs.declared.note.Note.{Note}
 use Rattle.ch_model.specs.declared.note.Note.TheVariants as notes
 use Rattle.ch_model.specs.declared.step.Place.{Place}
-use Rattle.ch_model.specs.AnswersOwn.{is_own, has_own}
+use Rattle.ch_model.specs.AnswersOwn.{is_own}
 use Rattle.ch_model.specs.Cell.{Celled, answered, refused, refusal, node_did, at_node, commanded, room_for, closes_after, shut_node, cell_step}
-use Rattle.ch_model.specs.CellSteps.{Followed, after_entries, ◌then◌, is_at, with_node, act_on, acts_on, all_items}
+use Rattle.ch_model.specs.CellSteps.{Followed, after_entries, ◌then◌, is_at, with_node, acts_on, all_items}
 use Rattle.ch_model.specs.HostCalls.{host_close_endpoint}
-use Rattle.ch_model.specs.Naming.{Names, address_as, called, process_as, target_as, process_called, target_called}
+use Rattle.ch_model.specs.Naming.{Names, address_as, called, process_as, target_as, reference_as, process_called, target_called}
 use Rattle.ch_model.specs.Node.{node_make, node_command, node_shut, target_node}
 use Rattle.ch_model.specs.NodeIds.{process_id}
 use Rattle.ch_model.specs.NodePairs.{pair_of}
@@ -47,11 +47,10 @@ use Rattle.ch_model.specs.WorldHappenings.{Answered, cell_told, cell_hears, with
 use Rattle.ch_model.specs.WorldLines.{node_hears, line_done}
 use Rattle.ch_model.specs.WorldSockets.{cell_of}
 use Rattle.ch_model.specs.WorldState.{Cell, World}
-use Rattle.ch_model.specs.WorldSteps.{note_entry, all_told, local_told, after_told}
+use Rattle.ch_model.specs.WorldSteps.{note_entry, all_told, local_told}
 use Rattle.ch_laws_log.specs.Declared.{AreApart, is_declared, begins_own}
-use Rattle.ch_laws_log.specs.Lines.{is_of_network}
 use Rattle.ch_laws_log.proofs.Agreeing.{Good}
-use Rattle.ch_laws_log.proofs.Begins.{Begins, Begun, made_first, shut_first, send_first, again_first, receive_first, take_first, port_first, finish_first, fall_first}
+use Rattle.ch_laws_log.proofs.Begins.{Begins, Begun, made_first, shut_first, send_first, again_first, receive_first, take_first, port_first, finish_first, fall_first, watch_first, unwatch_first, register_first, unregister_first}
 use Rattle.ch_laws_log.proofs.Blocks.{OwnFirst, AnsweredOwn, AllKeep, good_kept}
 use Rattle.ch_laws_log.proofs.Homes.{Housed, housed_kept, own_is, called_so}
 use Rattle.ch_laws_log.proofs.Kept.{LedOn}
@@ -292,6 +291,55 @@ unfolding node_command
 falls_own journal log by world h apart declared = asks_own journal log (lines.Fall by) by commands.Fall world h apart declared (λ node at room.
     fall_first (IsOwnNote journal log (lines.Fall by) world.names) node by.counter (λ reason last. process_own world.names node by by.counter at refl))
 
+watched : (a b c : Bool) → a ≡ true → b ≡ true → c ≡ true → (a && b && c) ≡ true
+watched true true true e f g = refl
+watched true true false e f g = g
+watched true false c e f g = f
+watched false b c e f g = e
+
+name_same : (known : Names) (node : NodeState) (x : List ℕ) → called known node.own ≡ x → bytes_eq (called known node.own) x ≡ true
+name_same known node x at = ap (λ (y : List ℕ). bytes_eq y x) at ∙ bytes_same x
+
+monitors_own : (journal : List Line) (log : List Entry) (by target : ProcName) (world : World) → Housed journal world → AreApart (names_of journal) → (is_declared (names_of journal) by.node && is_declared (names_of journal) target.node) ≡ true → AnsweredOwn journal log (lines.Monitor by target) (node_hears by.node (λ end. events.Command end by.counter (commands.Monitor (process_as world.names target))) world)
+unfolding node_command
+monitors_own journal log by target world h apart declared =
+    let parts = and_parts (is_declared (names_of journal) by.node) (is_declared (names_of journal) target.node) declared in
+    asks_own journal log (lines.Monitor by target) by (commands.Monitor (process_as world.names target)) world h apart parts.0 (λ node at room.
+      watch_first (IsOwnNote journal log (lines.Monitor by target) world.names) node by.counter kinds.Monitor (process_as world.names target) room (λ n last.
+        watched (bytes_eq (called world.names node.own) by.node) (same_process (process_called world.names (process_id node by.counter)) by) (same_process (process_called world.names (process_as world.names target)) target)
+          (name_same world.names node by.node at) (process_own world.names node by by.counter at refl) (process_back world.names target (at_name journal world target.node h apart parts.1))))
+
+links_own : (journal : List Line) (log : List Entry) (by target : ProcName) (world : World) → Housed journal world → AreApart (names_of journal) → (is_declared (names_of journal) by.node && is_declared (names_of journal) target.node) ≡ true → AnsweredOwn journal log (lines.Link by target) (node_hears by.node (λ end. events.Command end by.counter (commands.Link (process_as world.names target))) world)
+unfolding node_command
+links_own journal log by target world h apart declared =
+    let parts = and_parts (is_declared (names_of journal) by.node) (is_declared (names_of journal) target.node) declared in
+    asks_own journal log (lines.Link by target) by (commands.Link (process_as world.names target)) world h apart parts.0 (λ node at room.
+      watch_first (IsOwnNote journal log (lines.Link by target) world.names) node by.counter kinds.Link (process_as world.names target) room (λ n last.
+        watched (bytes_eq (called world.names node.own) by.node) (same_process (process_called world.names (process_id node by.counter)) by) (same_process (process_called world.names (process_as world.names target)) target)
+          (name_same world.names node by.node at) (process_own world.names node by by.counter at refl) (process_back world.names target (at_name journal world target.node h apart parts.1))))
+
+unwatches_own : (journal : List Line) (log : List Entry) (by : ProcName) (watch : RefName) (world : World) → Housed journal world → AreApart (names_of journal) → (is_declared (names_of journal) by.node && is_declared (names_of journal) watch.node) ≡ true → AnsweredOwn journal log (lines.Unwatch by watch) (node_hears by.node (λ end. events.Command end by.counter (commands.Unwatch (reference_as world.names watch))) world)
+unfolding node_command
+unwatches_own journal log by watch world h apart declared =
+    let parts = and_parts (is_declared (names_of journal) by.node) (is_declared (names_of journal) watch.node) declared in
+    asks_own journal log (lines.Unwatch by watch) by (commands.Unwatch (reference_as world.names watch)) world h apart parts.0 (λ node at room.
+      unwatch_first (IsOwnNote journal log (lines.Unwatch by watch) world.names) node by.counter (reference_as world.names watch) room (λ last.
+        both (bytes_eq (called world.names (address_as world.names watch.node)) watch.node) (watch.number == watch.number)
+          (ap (λ (y : List ℕ). bytes_eq y watch.node) (at_name journal world watch.node h apart parts.1) ∙ bytes_same watch.node) (number_same watch.number)))
+
+registers_own : (journal : List Line) (log : List Entry) (by : ProcName) (name : List ℕ) (world : World) → Housed journal world → AreApart (names_of journal) → is_declared (names_of journal) by.node ≡ true → AnsweredOwn journal log (lines.Register by name) (node_hears by.node (λ end. events.Command end by.counter (commands.Register name)) world)
+unfolding node_command
+registers_own journal log by name world h apart declared = asks_own journal log (lines.Register by name) by (commands.Register name) world h apart declared (λ node at room.
+    register_first (IsOwnNote journal log (lines.Register by name) world.names) node by.counter name (λ last.
+      watched (bytes_eq (called world.names node.own) by.node) (bytes_eq name name) (same_process (process_called world.names (process_id node by.counter)) by)
+        (name_same world.names node by.node at) (bytes_same name) (process_own world.names node by by.counter at refl)))
+
+unregisters_own : (journal : List Line) (log : List Entry) (by : ProcName) (name : List ℕ) (world : World) → Housed journal world → AreApart (names_of journal) → is_declared (names_of journal) by.node ≡ true → AnsweredOwn journal log (lines.Unregister by name) (node_hears by.node (λ end. events.Command end by.counter (commands.Unregister name)) world)
+unfolding node_command
+unregisters_own journal log by name world h apart declared = asks_own journal log (lines.Unregister by name) by (commands.Unregister name) world h apart declared (λ node at room.
+    unregister_first (IsOwnNote journal log (lines.Unregister by name) world.names) node by.counter name (λ last.
+      watched (bytes_eq (called world.names node.own) by.node) (bytes_eq name name) true (name_same world.names node by.node at) (bytes_same name) refl))
+
 pub node_line_own : (journal : List Line) → AreApart (names_of journal) → (log : List Entry) (what : What) (world : World) → begins_own (names_of journal) what ≡ true → Good journal log world × Housed journal world → AnsweredOwn journal log what (line_done what world)
 node_line_own journal apart log (lines.Proc node) world of i = makes_own journal log node world i.1 apart of
 node_line_own journal apart log (lines.Shut node) world of i = shuts_own journal log node world i.1 apart of
@@ -304,6 +352,11 @@ node_line_own journal apart log (lines.Take by port) world of i = takes_own jour
 node_line_own journal apart log (lines.End by) world of i = ends_own journal log by world i.1 apart of
 node_line_own journal apart log (lines.Fail by text) world of i = fails_own journal log by text world i.1 apart of
 node_line_own journal apart log (lines.Fall by) world of i = falls_own journal log by world i.1 apart of
+node_line_own journal apart log (lines.Monitor by target) world of i = monitors_own journal log by target world i.1 apart of
+node_line_own journal apart log (lines.Link by target) world of i = links_own journal log by target world i.1 apart of
+node_line_own journal apart log (lines.Unwatch by watch) world of i = unwatches_own journal log by watch world i.1 apart of
+node_line_own journal apart log (lines.Register by name) world of i = registers_own journal log by name world i.1 apart of
+node_line_own journal apart log (lines.Unregister by name) world of i = unregisters_own journal log by name world i.1 apart of
 node_line_own journal apart log what world of i = line_own journal log what world of i.0
 
 pub both_kept : (journal : List Line) → AllKeep (λ l w. Good journal l w × Housed journal w)

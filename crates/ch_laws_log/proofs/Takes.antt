@@ -8,7 +8,7 @@ use Rattle.ch_mail.specs.declared.error.MailError.TheVariants as mails
 use Rattle.ch_mail.specs.Lives.{is_live}
 use Rattle.ch_mail.specs.Process.{Process}
 use Rattle.ch_mail.specs.Queue.{after_passing, first_that, first_of_mark}
-use Rattle.ch_mail.specs.Mail.{◌>>=◌, there_or, made_at, taken_from, take_of}
+use Rattle.ch_mail.specs.Mail.{◌>>=◌, there_or, taken_from, take_of}
 
 -- the message that was taken has the mark
 abbrev pub TakenMarked : {A E : Type 0} → List ℕ → Result (Message × A) E → Type 0

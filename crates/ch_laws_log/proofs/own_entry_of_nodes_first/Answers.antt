@@ -1,4 +1,4 @@
-use Rattle.std.proofs.Common.{◌≤◌, ℕ, refl, arith}
+use Rattle.std.proofs.Common.{refl, arith}
 use Rattle.ch_watch.specs.Same.{same_node}
 use Rattle.ch_model.specs.World.{names_of}
 use Rattle.ch_laws_log.specs.Declared.{begins_own}
