@@ -1,8 +1,18 @@
 -- What a node does where it does what was asked begins with telling it.
-use Rattle.std.proofs.Common.{◌≡◌, ℕ, Bool, true, false, cond, List, [], ◌∷◌, ◌++◌, map, Ok, Err}
+use Rattle.std.proofs.Common.{◌≡◌, ℕ, Bool, true, false, cond, List, [], ◌∷◌, ◌++◌, map, Ok, Err, refl}
 use Rattle.std.specs.Prelude.{Result, Some, None, ok_or}
 use Rattle.std.specs.Str.{bytes_eq}
 use Rattle.ch_base.specs.declared.event.Room.{Room}
+use Rattle.ch_base.specs.declared.address.Address.{Address}
+use Rattle.ch_ident.specs.declared.node_message.NodeMessage.{NodeMessage}
+use Rattle.ch_ident.specs.declared.node_message.NodeMessage.TheVariants as messages
+use Rattle.ch_ident.specs.Spelling as spelling
+use Rattle.ch_static.specs.declared.closure.Closure.{Closure}
+use Rattle.ch_watch.specs.declared.waiting.Kind.TheVariants as kinds
+use Rattle.ch_watch.specs.Lists.{Lists}
+use Rattle.ch_model.specs.declared.step.Weight.TheVariants.{Counted}
+use Rattle.ch_model.specs.NodeAsks.{fail_unlabelled, tell_spawned, spawn_arrives, origin_of}
+use Rattle.ch_model.specs.NodeConnections.{tell_node}
 use Rattle.ch_ident.specs.declared.message.Message.{Message}
 use Rattle.ch_ident.specs.declared.reason.Reason.{Reason}
 use Rattle.ch_ident.specs.declared.reason.Reason.TheVariants as reasons
@@ -22,16 +32,16 @@ use Rattle.ch_model.specs.declared.command.CommandError.TheVariants as errors
 use Rattle.ch_model.specs.declared.note.Note.{Note}
 use Rattle.ch_model.specs.declared.note.Note.TheVariants as notes
 use Rattle.ch_model.specs.NodeState.{NodeState, Pair}
-use Rattle.ch_model.specs.NodeActs.{◌>>=◌, Done, after, each_in_turn, stopping, mailed, watching, or_unchanged, growing}
-use Rattle.ch_model.specs.NodeIds.{process_id, reference_to}
+use Rattle.ch_model.specs.NodeActs.{◌>>=◌, Done, after, each_in_turn, stopping, mailed, watching, or_unchanged, growing, noting, doing, ◌and_then◌}
+use Rattle.ch_model.specs.NodeIds.{process_id, reference_to, is_here}
 use Rattle.ch_model.specs.NodePairs.{pair_of, keeping, next_epoch}
-use Rattle.ch_model.specs.NodeLives.{make}
+use Rattle.ch_model.specs.NodeLives.{make, with_process}
 use Rattle.ch_model.specs.NodeWatches.{tell_end, watch_under}
 use Rattle.ch_model.specs.NodeEnds.{over, bereft, farewell, shut_lists}
 use Rattle.ch_model.specs.NodeSends.{carry, payload_of, weight_of, with_said, say, reconnect}
 use Rattle.ch_model.specs.NodeRoom.{acting, falling, known, fitting, not_full, room_to_send}
-use Rattle.ch_model.specs.NodeMessages.{ask}
-use Rattle.ch_model.specs.NodeRequests.{watch_message, unwatch_message, watch, watch_by, unwatch_by, register_by, unregister_by}
+use Rattle.ch_model.specs.NodeMessages.{ask, handle}
+use Rattle.ch_model.specs.NodeRequests.{watch_message, unwatch_message, watch, watch_by, unwatch_by, register_by, unregister_by, asked_note, question, spawn_by}
 use Rattle.ch_model.specs.NodeCommands.{send_of, again_of, receive_of, take_port, open_port, finish_of, fall_of}
 use Rattle.ch_model.specs.Node.{node_make, node_shut}
 use Rattle.ch_laws_log.proofs.Takes.{TakenMarked, taken_marked}
@@ -67,6 +77,14 @@ bound P (Err e) f k = tt
 stopped : (P : Note → Type 0) (done : Done) → Begun P done → Begun P (stopping done)
 stopped P (Ok done) b = b
 stopped P (Err stop) b = tt
+
+in_turn : (P : Note → Type 0) (done : Done) (f : NodeState → Done) → Begun P done → Begun P (done and_then f)
+in_turn P (Ok done) f b = later P done.0 (f done.1) b
+in_turn P (Err stop) f b = tt
+
+no_more : (P : Note → Type 0) (done : Done) → Begun P done → Begun P (after [] done)
+no_more P (Ok done) b = b
+no_more P (Err stop) b = tt
 
 -- ---- a process is made, and the node is shut
 
@@ -147,3 +165,33 @@ register_first P node by name p = bound P (acting node by) _ (λ live. bound P (
 pub unregister_first : (P : Note → Type 0) (node : NodeState) (by : ℕ) (name : List ℕ) → P (notes.Named node.own name None) → Begun P (unregister_by node by name)
 unfolding unregister_by
 unregister_first P node by name p = bound P (acting node by) _ (λ live. bound P (watching (unregister_of node.watches name)) _ (λ taken. p))
+
+-- ---- spawns
+
+-- what a spawn at the own node makes, or the question to another
+spawned_first : (P : Note → Type 0) (node : NodeState) (question : Ref) (label args : List ℕ) → ((n : ℕ) → P (notes.Made (process_id node n) (Some (origin_of question label)))) → Begun P (spawn_arrives node question label args)
+unfolding spawn_arrives
+spawned_first P node question label args p = bound P (make_of node.mail) _ (λ made. in_turn P (noting (notes.Made (process_id node made.0) (Some (origin_of question label))) (with_process node made.1 args) and_then (λ n. fail_unlabelled n label made.0)) (λ n. tell_spawned n question (process_id n made.0))
+    (in_turn P (noting (notes.Made (process_id node made.0) (Some (origin_of question label))) (with_process node made.1 args)) (λ n. fail_unlabelled n label made.0) (p made.0)))
+
+asked_first : (P : Note → Type 0) (node : NodeState) (lists : Lists) (by n : ℕ) (at : Address) (closure : Closure)
+    → (is_here node at ≡ true → (m : ℕ) → P (notes.Made (process_id node m) (Some (origin_of (reference_to node n) closure.label)))) → (is_here node at ≡ false → P (notes.Asked (reference_to node n) (process_id node by) at))
+    → Begun P (doing (asked_note node by at (reference_to node n)) (record node { watches = lists }) and_then (λ m. ask m at (messages.Spawn (reference_to node n) closure.label closure.args)))
+unfolding ask handle
+asked_first P node lists by n at closure here there = by_test (is_here node at) refl where
+  next : NodeState
+  next = record node { watches = lists }
+
+  said : NodeMessage
+  said = messages.Spawn (reference_to node n) closure.label closure.args
+
+  by_test : (b : Bool) → is_here node at ≡ b → Begun P (after (cond b [] (acts.Note (notes.Asked (reference_to node n) (process_id node by) at) ∷ [])) (cond b (handle next said) (tell_node next at said (Counted None))))
+  by_test true e = no_more P (spawn_arrives next (reference_to node n) closure.label closure.args) (spawned_first P next (reference_to node n) closure.label closure.args (here e))
+  by_test false e = later P (acts.Note (notes.Asked (reference_to node n) (process_id node by) at) ∷ []) (tell_node next at said (Counted None)) (there e)
+
+pub spawn_first : (P : Note → Type 0) (node : NodeState) (by : ℕ) (at : Address) (closure : Closure) (room : Room)
+    → (is_here node at ≡ true → (n m : ℕ) → P (notes.Made (process_id node m) (Some (origin_of (reference_to node n) closure.label)))) → (is_here node at ≡ false → (n : ℕ) → P (notes.Asked (reference_to node n) (process_id node by) at))
+    → Begun P (spawn_by node by at closure room)
+unfolding spawn_by question
+spawn_first P node by at closure room here there = bound P (acting node by) _ (λ live. bound P (fitting (spelling.message (messages.Spawn (reference_to node node.watches.next) closure.label closure.args))) _ (λ short. bound P (not_full node at room) _ (λ roomy. stopped P (question node by kinds.Spawn at (λ asked. messages.Spawn asked closure.label closure.args))
+    (bound P (watch_of node.watches by kinds.Spawn (ends.Node at)) _ (λ opened. asked_first P node opened.1 by opened.0 at closure (λ e m. here e opened.0 m) (λ e. there e opened.0))))))

@@ -138,7 +138,7 @@ own_is journal world own place cell there h of at is =
 
 -- ---- names
 
-node_self : (a : Address) → same_node a a ≡ true
+pub node_self : (a : Address) → same_node a a ≡ true
 unfolding same_node
 node_self a = ap (λ b. b && ((a.port == a.port) && (a.id == a.id))) (bytes_same a.host) ∙ ap (λ b. b && (a.id == a.id)) (number_same a.port) ∙ number_same a.id
 

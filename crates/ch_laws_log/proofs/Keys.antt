@@ -13,7 +13,7 @@ use Rattle.ch_watch.specs.Same.{same_node}
 use Rattle.ch_model.specs.NodeState.{Pair}
 use Rattle.ch_model.specs.NodePairs.{same_process, same_port, same_target, is_pair, new_pair, pair_of}
 
-node_is : (a b : Address) → same_node a b ≡ true → a ≡ b
+pub node_is : (a b : Address) → same_node a b ≡ true → a ≡ b
 unfolding same_node
 node_is a b h =
     let parts = and_parts (bytes_eq a.host b.host) ((a.port == b.port) && (a.id == b.id)) h in

@@ -1,5 +1,6 @@
 -- What a line asks of a declared node, where it is done, begins with the line's own entry.
-use Rattle.std.proofs.Common.{◌≡◌, ℕ, Bool, true, false, ◌&&◌, List, [], ◌∷◌, ◌++◌, Ok, Err, refl, sym, ap, ◌∙◌, subst, ◌==◌}
+use Rattle.std.proofs.Common.{◌≡◌, ℕ, Bool, true, false, ◌&&◌, List, [], ◌∷◌, ◌++◌, Ok, Err, refl, sym, ap, ◌∙◌, subst, ◌==◌, cond}
+use Rattle.std.proofs.lemmas.Slice.Eq.{bytes_eq-Decides}
 use Rattle.std.proofs.lemmas.Bool.{and_parts}
 use Rattle.std.specs.Prelude.{find, slice_get, Result, Option, Some, None}
 use Rattle.std.specs.Str.{bytes_eq}
@@ -36,7 +37,9 @@ use Rattle.ch_model.specs.CellSteps.{Followed, after_entries, ◌then◌, is_at,
 use Rattle.ch_model.specs.HostCalls.{host_close_endpoint}
 use Rattle.ch_model.specs.Naming.{Names, address_as, called, process_as, target_as, reference_as, process_called, target_called}
 use Rattle.ch_model.specs.Node.{node_make, node_command, node_shut, target_node}
-use Rattle.ch_model.specs.NodeIds.{process_id}
+use Rattle.ch_model.specs.NodeIds.{process_id, is_here, reference_to}
+use Rattle.ch_static.specs.declared.closure.Closure.{Closure}
+use Rattle.ch_watch.specs.Same.{same_node}
 use Rattle.ch_model.specs.NodePairs.{pair_of}
 use Rattle.ch_model.specs.NodeState.{NodeState, Pair}
 use Rattle.ch_model.specs.Reasons.{same_reason}
@@ -50,11 +53,11 @@ use Rattle.ch_model.specs.WorldState.{Cell, World}
 use Rattle.ch_model.specs.WorldSteps.{note_entry, all_told, local_told}
 use Rattle.ch_laws_log.specs.Declared.{AreApart, is_declared, begins_own}
 use Rattle.ch_laws_log.proofs.Agreeing.{Good}
-use Rattle.ch_laws_log.proofs.Begins.{Begins, Begun, made_first, shut_first, send_first, again_first, receive_first, take_first, port_first, finish_first, fall_first, watch_first, unwatch_first, register_first, unregister_first}
+use Rattle.ch_laws_log.proofs.Begins.{Begins, Begun, made_first, shut_first, send_first, again_first, receive_first, take_first, port_first, finish_first, fall_first, watch_first, unwatch_first, register_first, unregister_first, spawn_first}
 use Rattle.ch_laws_log.proofs.Blocks.{OwnFirst, AnsweredOwn, AllKeep, good_kept}
-use Rattle.ch_laws_log.proofs.Homes.{Housed, housed_kept, own_is, called_so}
+use Rattle.ch_laws_log.proofs.Homes.{Housed, housed_kept, own_is, called_so, node_self}
 use Rattle.ch_laws_log.proofs.Kept.{LedOn}
-use Rattle.ch_laws_log.proofs.Keys.{pair_named}
+use Rattle.ch_laws_log.proofs.Keys.{pair_named, node_is}
 use Rattle.ch_laws_log.proofs.OwnEntries.{own_told, line_own}
 use Rattle.ch_laws_log.proofs.Stored.{bytes_same, number_same}
 
@@ -196,13 +199,18 @@ at_name : (journal : List Line) (world : World) (name : List ℕ) → Housed jou
 at_name journal world name h apart declared = subst (λ (known : Names). called known (address_as known name) ≡ name) (sym h.names) (called_so (names_of journal) name apart declared)
 
 -- a process of a declared node asks something
+asks_at : (journal : List Line) (log : List Entry) (what : What) (by : ProcName) (command : Command) (world : World) → Housed journal world
+    → ((node : NodeState) → node.own ≡ address_as world.names by.node → (room : _) → Begun (IsOwnNote journal log what world.names) (node_command node by.counter command room))
+    → AnsweredOwn journal log what (node_hears by.node (λ end. events.Command end by.counter command) world)
+asks_at journal log what by command world h each = hears_own journal log what by.node (λ end. events.Command end by.counter command) world h (λ cell here.
+    at_first (IsOwnNote journal log what world.names) (address_as world.names by.node) (address_as world.names by.node).id cell (commanded (address_as world.names by.node).id by.counter command cell) here (λ node own.
+      did_first (IsOwnNote journal log what world.names) (address_as world.names by.node).id cell (node_command node by.counter command (room_for cell.host (address_as world.names by.node).id node.own (target_node node by.counter command)))
+        (each node own (room_for cell.host (address_as world.names by.node).id node.own (target_node node by.counter command)))))
+
 asks_own : (journal : List Line) (log : List Entry) (what : What) (by : ProcName) (command : Command) (world : World) → Housed journal world → AreApart (names_of journal) → is_declared (names_of journal) by.node ≡ true
     → ((node : NodeState) → called world.names node.own ≡ by.node → (room : _) → Begun (IsOwnNote journal log what world.names) (node_command node by.counter command room))
     → AnsweredOwn journal log what (node_hears by.node (λ end. events.Command end by.counter command) world)
-asks_own journal log what by command world h apart declared each = hears_own journal log what by.node (λ end. events.Command end by.counter command) world h (λ cell here.
-    at_first (IsOwnNote journal log what world.names) (address_as world.names by.node) (address_as world.names by.node).id cell (commanded (address_as world.names by.node).id by.counter command cell) here (λ node own.
-    did_first (IsOwnNote journal log what world.names) (address_as world.names by.node).id cell (node_command node by.counter command (room_for cell.host (address_as world.names by.node).id node.own (target_node node by.counter command)))
-    (each node (ap (called world.names) own ∙ at_name journal world by.node h apart declared) (room_for cell.host (address_as world.names by.node).id node.own (target_node node by.counter command)))))
+asks_own journal log what by command world h apart declared each = asks_at journal log what by command world h (λ node own room. each node (ap (called world.names) own ∙ at_name journal world by.node h apart declared) room)
 
 sends_own : (journal : List Line) (log : List Entry) (what : What) (by : ProcName) (to : TargetName) (mark body : List ℕ) (world : World) → Housed journal world → AreApart (names_of journal) → (is_declared (names_of journal) by.node && is_declared (names_of journal) (node_of to)) ≡ true
     → ((entry : Entry) → is_own journal log (lines.Send by to mark body) entry ≡ true → is_own journal log what entry ≡ true)
@@ -340,6 +348,38 @@ unregisters_own journal log by name world h apart declared = asks_own journal lo
     unregister_first (IsOwnNote journal log (lines.Unregister by name) world.names) node by.counter name (λ last.
       watched (bytes_eq (called world.names node.own) by.node) (bytes_eq name name) true (name_same world.names node by.node at) (bytes_same name) refl))
 
+-- a spawn at the own node makes a process, and at another asks it
+spawns_own : (journal : List Line) (log : List Entry) (by : ProcName) (at label args : List ℕ) (world : World) → Housed journal world → AreApart (names_of journal) → (is_declared (names_of journal) by.node && is_declared (names_of journal) at) ≡ true → AnsweredOwn journal log (lines.Spawn by at label args) (node_hears by.node (λ end. events.Command end by.counter (commands.Spawn (address_as world.names at) (record { label = label; args = args }))) world)
+unfolding node_command
+spawns_own journal log by at label args world h apart declared = asks_at journal log (lines.Spawn by at label args) by (commands.Spawn (address_as world.names at) closure) world h (λ node is room.
+    let own : called world.names node.own ≡ by.node = ap (called world.names) is ∙ at_name journal world by.node h apart parts.0 in
+    spawn_first (IsOwnNote journal log (lines.Spawn by at label args) world.names) node by.counter (address_as world.names at) closure room (λ e n m last. made_here node own n m (bytes_eq by.node at) refl e) (λ e n last. asked_there node is own n (bytes_eq by.node at) refl e)) where
+      closure : Closure
+      closure = record { label = label; args = args }
+
+      parts : (is_declared (names_of journal) by.node ≡ true) × (is_declared (names_of journal) at ≡ true)
+      parts = and_parts (is_declared (names_of journal) by.node) (is_declared (names_of journal) at) declared
+
+      back : called world.names (address_as world.names at) ≡ at
+      back = at_name journal world at h apart parts.1
+
+      made_here : (node : NodeState) → called world.names node.own ≡ by.node → (n m : ℕ) → (b : Bool) → bytes_eq by.node at ≡ b → is_here node (address_as world.names at) ≡ true
+          → cond b (bytes_eq (called world.names node.own) at && bytes_eq (called world.names node.own) at && bytes_eq label label) false ≡ true
+      made_here node own n m true same here = let is : called world.names node.own ≡ at = own ∙ (bytes_eq-Decides by.node at).0 same in
+          watched (bytes_eq (called world.names node.own) at) (bytes_eq (called world.names node.own) at) (bytes_eq label label) (name_same world.names node at is) (name_same world.names node at is) (bytes_same label)
+      made_here node own n m false same here =
+          let one : at ≡ by.node = sym back ∙ ap (called world.names) (node_is (address_as world.names at) node.own here) ∙ own in
+          let two : bytes_eq by.node at ≡ true = (bytes_eq-Decides by.node at).1 (sym one) in
+          absurd cc
+
+      asked_there : (node : NodeState) → node.own ≡ address_as world.names by.node → called world.names node.own ≡ by.node → (n : ℕ) → (b : Bool) → bytes_eq by.node at ≡ b → is_here node (address_as world.names at) ≡ false
+          → cond b false (bytes_eq (called world.names node.own) by.node && same_process (process_called world.names (process_id node by.counter)) by && bytes_eq (called world.names (address_as world.names at)) at) ≡ true
+      asked_there node is own n false same there = watched (bytes_eq (called world.names node.own) by.node) (same_process (process_called world.names (process_id node by.counter)) by) (bytes_eq (called world.names (address_as world.names at)) at)
+          (name_same world.names node by.node own) (process_own world.names node by by.counter own refl) (ap (λ (y : List ℕ). bytes_eq y at) back ∙ bytes_same at)
+      asked_there node is own n true same there =
+          let here : is_here node (address_as world.names at) ≡ true = ap (same_node (address_as world.names at)) (is ∙ ap (address_as world.names) ((bytes_eq-Decides by.node at).0 same)) ∙ node_self (address_as world.names at) in
+          absurd cc
+
 pub node_line_own : (journal : List Line) → AreApart (names_of journal) → (log : List Entry) (what : What) (world : World) → begins_own (names_of journal) what ≡ true → Good journal log world × Housed journal world → AnsweredOwn journal log what (line_done what world)
 node_line_own journal apart log (lines.Proc node) world of i = makes_own journal log node world i.1 apart of
 node_line_own journal apart log (lines.Shut node) world of i = shuts_own journal log node world i.1 apart of
@@ -357,6 +397,7 @@ node_line_own journal apart log (lines.Link by target) world of i = links_own jo
 node_line_own journal apart log (lines.Unwatch by watch) world of i = unwatches_own journal log by watch world i.1 apart of
 node_line_own journal apart log (lines.Register by name) world of i = registers_own journal log by name world i.1 apart of
 node_line_own journal apart log (lines.Unregister by name) world of i = unregisters_own journal log by name world i.1 apart of
+node_line_own journal apart log (lines.Spawn by at label args) world of i = spawns_own journal log by at label args world i.1 apart of
 node_line_own journal apart log what world of i = line_own journal log what world of i.0
 
 pub both_kept : (journal : List Line) → AllKeep (λ l w. Good journal l w × Housed journal w)

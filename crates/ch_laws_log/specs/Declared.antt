@@ -18,8 +18,8 @@ abbrev pub is_declared : List Named → List ℕ → Bool
 is_declared known name = is_some (find (is_named name) known)
 
 -- The line is of a declared node that is shut or makes a process, or of a process of one: what it says, takes and
--- opens, what it watches, which names it registers, and its end. What it says and watches is of a declared node. Or the
--- line is of the network.
+-- opens, what it watches, which names it registers, what it spawns, and its end. What it says and watches is of a
+-- declared node, and it spawns at one. Or the line is of the network.
 abbrev pub begins_own : List Named → What → Bool
 begins_own known (lines.Proc node) = is_declared known node
 begins_own known (lines.Shut node) = is_declared known node
@@ -37,4 +37,5 @@ begins_own known (lines.Link by target) = is_declared known by.node && is_declar
 begins_own known (lines.Unwatch by watch) = is_declared known by.node && is_declared known watch.node
 begins_own known (lines.Register by name) = is_declared known by.node
 begins_own known (lines.Unregister by name) = is_declared known by.node
+begins_own known (lines.Spawn by at label args) = is_declared known by.node && is_declared known at
 begins_own known what = is_of_network what

@@ -65,8 +65,8 @@ pub fn own_entry_first()
 
 /// So does each line that a declared node hears: one that makes a process or shuts the node, and one by which a process
 /// sends, reconnects, receives, opens a port, takes from it, watches or takes a watch back, registers or unregisters a name,
-/// ends, fails or falls. So it is for journals of rising numbers with such lines and those above, where no two names are
-/// declared at one address, and where the nodes of the lines and of what they send to or watch are declared. A journal of
+/// spawns, ends, fails or falls. So it is for journals of rising numbers with such lines and those above, where no two names are
+/// declared at one address, and where the nodes of the lines and of what they send to, watch or spawn at are declared. A journal of
 /// two nodes is such.
 pub fn own_entry_of_nodes_first()
     ensures law { (least : ℕ) (journal : List Line) (log : List Entry) → AreNumbered least journal → AreApart (names_of journal) → AllLines (begins_own (names_of journal)) journal → log_of journal ≡ Ok log → IsTrue (each_between (has_own_first journal) log) }
