@@ -1,5 +1,5 @@
 -- What a node does where it does what was asked begins with telling it.
-use Rattle.std.proofs.Common.{◌≡◌, ℕ, Bool, true, false, cond, List, [], ◌∷◌, ◌++◌, map, Ok, Err, refl}
+use Rattle.std.proofs.Common.{◌≡◌, ℕ, Bool, true, false, cond, List, [], ◌∷◌, ◌++◌, map, Ok, Err, refl, sym, subst}
 use Rattle.std.specs.Prelude.{Result, Some, None, ok_or}
 use Rattle.std.specs.Str.{bytes_eq}
 use Rattle.ch_base.specs.declared.event.Room.{Room}
@@ -41,7 +41,7 @@ use Rattle.ch_model.specs.NodeEnds.{over, bereft, farewell, shut_lists}
 use Rattle.ch_model.specs.NodeSends.{carry, payload_of, weight_of, with_said, say, reconnect}
 use Rattle.ch_model.specs.NodeRoom.{acting, falling, known, fitting, not_full, room_to_send}
 use Rattle.ch_model.specs.NodeMessages.{ask, handle}
-use Rattle.ch_model.specs.NodeRequests.{watch_message, unwatch_message, watch, watch_by, unwatch_by, register_by, unregister_by, asked_note, question, spawn_by}
+use Rattle.ch_model.specs.NodeRequests.{watch_message, unwatch_message, watch, watch_by, unwatch_by, register_by, unregister_by, asked_note, question, spawn_by, whereis_by}
 use Rattle.ch_model.specs.NodeCommands.{send_of, again_of, receive_of, take_port, open_port, finish_of, fall_of}
 use Rattle.ch_model.specs.Node.{node_make, node_shut}
 use Rattle.ch_laws_log.proofs.Takes.{TakenMarked, taken_marked}
@@ -195,3 +195,10 @@ pub spawn_first : (P : Note → Type 0) (node : NodeState) (by : ℕ) (at : Addr
 unfolding spawn_by question
 spawn_first P node by at closure room here there = bound P (acting node by) _ (λ live. bound P (fitting (spelling.message (messages.Spawn (reference_to node node.watches.next) closure.label closure.args))) _ (λ short. bound P (not_full node at room) _ (λ roomy. stopped P (question node by kinds.Spawn at (λ asked. messages.Spawn asked closure.label closure.args))
     (bound P (watch_of node.watches by kinds.Spawn (ends.Node at)) _ (λ opened. asked_first P node opened.1 by opened.0 at closure (λ e m. here e opened.0 m) (λ e. there e opened.0))))))
+
+-- a question to another node for a name
+pub whereis_first : (P : Note → Type 0) (node : NodeState) (by : ℕ) (at : Address) (name : List ℕ) (room : Room) → is_here node at ≡ false → ((n : ℕ) → P (notes.Asked (reference_to node n) (process_id node by) at)) → Begun P (whereis_by node by at name room)
+unfolding whereis_by question
+whereis_first P node by at name room away p = bound P (acting node by) _ (λ live. bound P (not_full node at room) _ (λ roomy. stopped P (question node by kinds.Ask at (λ asked. messages.WhereIs asked name)) (bound P (watch_of node.watches by kinds.Ask (ends.Node at)) _ (λ opened.
+    later P (asked_note node by at (reference_to node opened.0)) (ask (record node { watches = opened.1 }) at (messages.WhereIs (reference_to node opened.0) name))
+    (subst (λ b. Begins P (cond b [] (acts.Note (notes.Asked (reference_to node opened.0) (process_id node by) at) ∷ []))) (sym away) (p opened.0))))))

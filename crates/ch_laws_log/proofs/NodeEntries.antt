@@ -1,5 +1,5 @@
 -- What a line asks of a declared node, where it is done, begins with the line's own entry.
-use Rattle.std.proofs.Common.{◌≡◌, ℕ, Bool, true, false, ◌&&◌, List, [], ◌∷◌, ◌++◌, Ok, Err, refl, sym, ap, ◌∙◌, subst, ◌==◌, cond}
+use Rattle.std.proofs.Common.{◌≡◌, ℕ, Bool, true, false, ◌&&◌, List, [], ◌∷◌, ◌++◌, Ok, Err, refl, sym, ap, ◌∙◌, subst, ◌==◌, cond, not, ◌||◌}
 use Rattle.std.proofs.lemmas.Slice.Eq.{bytes_eq-Decides}
 use Rattle.std.proofs.lemmas.Bool.{and_parts}
 use Rattle.std.specs.Prelude.{find, slice_get, Result, Option, Some, None}
@@ -31,10 +31,12 @@ use Rattle.ch_model.specs.declared.name.TargetName.TheVariants as names
 use Rattle.ch_model.specs.declared.note.Note.{Note}
 use Rattle.ch_model.specs.declared.note.Note.TheVariants as notes
 use Rattle.ch_model.specs.declared.step.Place.{Place}
-use Rattle.ch_model.specs.AnswersOwn.{is_own}
+use Rattle.ch_model.specs.AnswersOwn.{is_own, has_own}
 use Rattle.ch_model.specs.Cell.{Celled, answered, refused, refusal, node_did, at_node, commanded, room_for, closes_after, shut_node, cell_step}
 use Rattle.ch_model.specs.CellSteps.{Followed, after_entries, ◌then◌, is_at, with_node, acts_on, all_items}
 use Rattle.ch_model.specs.HostCalls.{host_close_endpoint}
+use Rattle.ch_model.specs.Life.{is_live}
+use Rattle.ch_model.specs.Logs.{next_is}
 use Rattle.ch_model.specs.Naming.{Names, address_as, called, process_as, target_as, reference_as, process_called, target_called}
 use Rattle.ch_model.specs.Node.{node_make, node_command, node_shut, target_node}
 use Rattle.ch_model.specs.NodeIds.{process_id, is_here, reference_to}
@@ -53,7 +55,7 @@ use Rattle.ch_model.specs.WorldState.{Cell, World}
 use Rattle.ch_model.specs.WorldSteps.{note_entry, all_told, local_told}
 use Rattle.ch_laws_log.specs.Declared.{AreApart, is_declared, begins_own}
 use Rattle.ch_laws_log.proofs.Agreeing.{Good}
-use Rattle.ch_laws_log.proofs.Begins.{Begins, Begun, made_first, shut_first, send_first, again_first, receive_first, take_first, port_first, finish_first, fall_first, watch_first, unwatch_first, register_first, unregister_first, spawn_first}
+use Rattle.ch_laws_log.proofs.Begins.{Begins, Begun, made_first, shut_first, send_first, again_first, receive_first, take_first, port_first, finish_first, fall_first, watch_first, unwatch_first, register_first, unregister_first, spawn_first, whereis_first}
 use Rattle.ch_laws_log.proofs.Blocks.{OwnFirst, AnsweredOwn, AllKeep, good_kept}
 use Rattle.ch_laws_log.proofs.Homes.{Housed, housed_kept, own_is, called_so, node_self}
 use Rattle.ch_laws_log.proofs.Kept.{LedOn}
@@ -204,8 +206,8 @@ asks_at : (journal : List Line) (log : List Entry) (what : What) (by : ProcName)
     → AnsweredOwn journal log what (node_hears by.node (λ end. events.Command end by.counter command) world)
 asks_at journal log what by command world h each = hears_own journal log what by.node (λ end. events.Command end by.counter command) world h (λ cell here.
     at_first (IsOwnNote journal log what world.names) (address_as world.names by.node) (address_as world.names by.node).id cell (commanded (address_as world.names by.node).id by.counter command cell) here (λ node own.
-      did_first (IsOwnNote journal log what world.names) (address_as world.names by.node).id cell (node_command node by.counter command (room_for cell.host (address_as world.names by.node).id node.own (target_node node by.counter command)))
-        (each node own (room_for cell.host (address_as world.names by.node).id node.own (target_node node by.counter command)))))
+    did_first (IsOwnNote journal log what world.names) (address_as world.names by.node).id cell (node_command node by.counter command (room_for cell.host (address_as world.names by.node).id node.own (target_node node by.counter command)))
+    (each node own (room_for cell.host (address_as world.names by.node).id node.own (target_node node by.counter command)))))
 
 asks_own : (journal : List Line) (log : List Entry) (what : What) (by : ProcName) (command : Command) (world : World) → Housed journal world → AreApart (names_of journal) → is_declared (names_of journal) by.node ≡ true
     → ((node : NodeState) → called world.names node.own ≡ by.node → (room : _) → Begun (IsOwnNote journal log what world.names) (node_command node by.counter command room))
@@ -313,40 +315,40 @@ unfolding node_command
 monitors_own journal log by target world h apart declared =
     let parts = and_parts (is_declared (names_of journal) by.node) (is_declared (names_of journal) target.node) declared in
     asks_own journal log (lines.Monitor by target) by (commands.Monitor (process_as world.names target)) world h apart parts.0 (λ node at room.
-      watch_first (IsOwnNote journal log (lines.Monitor by target) world.names) node by.counter kinds.Monitor (process_as world.names target) room (λ n last.
-        watched (bytes_eq (called world.names node.own) by.node) (same_process (process_called world.names (process_id node by.counter)) by) (same_process (process_called world.names (process_as world.names target)) target)
-          (name_same world.names node by.node at) (process_own world.names node by by.counter at refl) (process_back world.names target (at_name journal world target.node h apart parts.1))))
+    watch_first (IsOwnNote journal log (lines.Monitor by target) world.names) node by.counter kinds.Monitor (process_as world.names target) room (λ n last.
+    watched (bytes_eq (called world.names node.own) by.node) (same_process (process_called world.names (process_id node by.counter)) by) (same_process (process_called world.names (process_as world.names target)) target)
+    (name_same world.names node by.node at) (process_own world.names node by by.counter at refl) (process_back world.names target (at_name journal world target.node h apart parts.1))))
 
 links_own : (journal : List Line) (log : List Entry) (by target : ProcName) (world : World) → Housed journal world → AreApart (names_of journal) → (is_declared (names_of journal) by.node && is_declared (names_of journal) target.node) ≡ true → AnsweredOwn journal log (lines.Link by target) (node_hears by.node (λ end. events.Command end by.counter (commands.Link (process_as world.names target))) world)
 unfolding node_command
 links_own journal log by target world h apart declared =
     let parts = and_parts (is_declared (names_of journal) by.node) (is_declared (names_of journal) target.node) declared in
     asks_own journal log (lines.Link by target) by (commands.Link (process_as world.names target)) world h apart parts.0 (λ node at room.
-      watch_first (IsOwnNote journal log (lines.Link by target) world.names) node by.counter kinds.Link (process_as world.names target) room (λ n last.
-        watched (bytes_eq (called world.names node.own) by.node) (same_process (process_called world.names (process_id node by.counter)) by) (same_process (process_called world.names (process_as world.names target)) target)
-          (name_same world.names node by.node at) (process_own world.names node by by.counter at refl) (process_back world.names target (at_name journal world target.node h apart parts.1))))
+    watch_first (IsOwnNote journal log (lines.Link by target) world.names) node by.counter kinds.Link (process_as world.names target) room (λ n last.
+    watched (bytes_eq (called world.names node.own) by.node) (same_process (process_called world.names (process_id node by.counter)) by) (same_process (process_called world.names (process_as world.names target)) target)
+    (name_same world.names node by.node at) (process_own world.names node by by.counter at refl) (process_back world.names target (at_name journal world target.node h apart parts.1))))
 
 unwatches_own : (journal : List Line) (log : List Entry) (by : ProcName) (watch : RefName) (world : World) → Housed journal world → AreApart (names_of journal) → (is_declared (names_of journal) by.node && is_declared (names_of journal) watch.node) ≡ true → AnsweredOwn journal log (lines.Unwatch by watch) (node_hears by.node (λ end. events.Command end by.counter (commands.Unwatch (reference_as world.names watch))) world)
 unfolding node_command
 unwatches_own journal log by watch world h apart declared =
     let parts = and_parts (is_declared (names_of journal) by.node) (is_declared (names_of journal) watch.node) declared in
     asks_own journal log (lines.Unwatch by watch) by (commands.Unwatch (reference_as world.names watch)) world h apart parts.0 (λ node at room.
-      unwatch_first (IsOwnNote journal log (lines.Unwatch by watch) world.names) node by.counter (reference_as world.names watch) room (λ last.
-        both (bytes_eq (called world.names (address_as world.names watch.node)) watch.node) (watch.number == watch.number)
-          (ap (λ (y : List ℕ). bytes_eq y watch.node) (at_name journal world watch.node h apart parts.1) ∙ bytes_same watch.node) (number_same watch.number)))
+    unwatch_first (IsOwnNote journal log (lines.Unwatch by watch) world.names) node by.counter (reference_as world.names watch) room (λ last.
+    both (bytes_eq (called world.names (address_as world.names watch.node)) watch.node) (watch.number == watch.number)
+    (ap (λ (y : List ℕ). bytes_eq y watch.node) (at_name journal world watch.node h apart parts.1) ∙ bytes_same watch.node) (number_same watch.number)))
 
 registers_own : (journal : List Line) (log : List Entry) (by : ProcName) (name : List ℕ) (world : World) → Housed journal world → AreApart (names_of journal) → is_declared (names_of journal) by.node ≡ true → AnsweredOwn journal log (lines.Register by name) (node_hears by.node (λ end. events.Command end by.counter (commands.Register name)) world)
 unfolding node_command
 registers_own journal log by name world h apart declared = asks_own journal log (lines.Register by name) by (commands.Register name) world h apart declared (λ node at room.
     register_first (IsOwnNote journal log (lines.Register by name) world.names) node by.counter name (λ last.
-      watched (bytes_eq (called world.names node.own) by.node) (bytes_eq name name) (same_process (process_called world.names (process_id node by.counter)) by)
-        (name_same world.names node by.node at) (bytes_same name) (process_own world.names node by by.counter at refl)))
+    watched (bytes_eq (called world.names node.own) by.node) (bytes_eq name name) (same_process (process_called world.names (process_id node by.counter)) by)
+    (name_same world.names node by.node at) (bytes_same name) (process_own world.names node by by.counter at refl)))
 
 unregisters_own : (journal : List Line) (log : List Entry) (by : ProcName) (name : List ℕ) (world : World) → Housed journal world → AreApart (names_of journal) → is_declared (names_of journal) by.node ≡ true → AnsweredOwn journal log (lines.Unregister by name) (node_hears by.node (λ end. events.Command end by.counter (commands.Unregister name)) world)
 unfolding node_command
 unregisters_own journal log by name world h apart declared = asks_own journal log (lines.Unregister by name) by (commands.Unregister name) world h apart declared (λ node at room.
     unregister_first (IsOwnNote journal log (lines.Unregister by name) world.names) node by.counter name (λ last.
-      watched (bytes_eq (called world.names node.own) by.node) (bytes_eq name name) true (name_same world.names node by.node at) (bytes_same name) refl))
+    watched (bytes_eq (called world.names node.own) by.node) (bytes_eq name name) true (name_same world.names node by.node at) (bytes_same name) refl))
 
 -- a spawn at the own node makes a process, and at another asks it
 spawns_own : (journal : List Line) (log : List Entry) (by : ProcName) (at label args : List ℕ) (world : World) → Housed journal world → AreApart (names_of journal) → (is_declared (names_of journal) by.node && is_declared (names_of journal) at) ≡ true → AnsweredOwn journal log (lines.Spawn by at label args) (node_hears by.node (λ end. events.Command end by.counter (commands.Spawn (address_as world.names at) (record { label = label; args = args }))) world)
@@ -380,6 +382,56 @@ spawns_own journal log by at label args world h apart declared = asks_at journal
           let here : is_here node (address_as world.names at) ≡ true = ap (same_node (address_as world.names at)) (is ∙ ap (address_as world.names) ((bytes_eq-Decides by.node at).0 same)) ∙ node_self (address_as world.names at) in
           absurd cc
 
+not_true : (b : Bool) → not b ≡ true → b ≡ false
+not_true false e = refl
+not_true true e = absurd cc
+
+-- a question for a name at another node
+asks_where_own : (journal : List Line) (log : List Entry) (by : ProcName) (at name : List ℕ) (world : World) → Housed journal world → AreApart (names_of journal) → (not (bytes_eq by.node at) && is_declared (names_of journal) by.node && is_declared (names_of journal) at) ≡ true → AnsweredOwn journal log (lines.Whereis by at name) (node_hears by.node (λ end. events.Command end by.counter (commands.WhereIs (address_as world.names at) name)) world)
+unfolding node_command
+asks_where_own journal log by at name world h apart holds = asks_own journal log (lines.Whereis by at name) by (commands.WhereIs (address_as world.names at) name) world h apart parts.0 (λ node own room.
+    whereis_first (IsOwnNote journal log (lines.Whereis by at name) world.names) node by.counter (address_as world.names at) name room (away node own (is_here node (address_as world.names at)) refl) (λ n last. asked_there node own n (bytes_eq by.node at) apart_from)) where
+      halves : ((not (bytes_eq by.node at) && is_declared (names_of journal) by.node) ≡ true) × (is_declared (names_of journal) at ≡ true)
+      halves = and_parts (not (bytes_eq by.node at) && is_declared (names_of journal) by.node) (is_declared (names_of journal) at) holds
+
+      first : (not (bytes_eq by.node at) ≡ true) × (is_declared (names_of journal) by.node ≡ true)
+      first = and_parts (not (bytes_eq by.node at)) (is_declared (names_of journal) by.node) halves.0
+
+      parts : (is_declared (names_of journal) by.node ≡ true) × (is_declared (names_of journal) at ≡ true)
+      parts = (first.1, halves.1)
+
+      apart_from : bytes_eq by.node at ≡ false
+      apart_from = not_true (bytes_eq by.node at) first.0
+
+      back : called world.names (address_as world.names at) ≡ at
+      back = at_name journal world at h apart parts.1
+
+      away : (node : NodeState) → called world.names node.own ≡ by.node → (b : Bool) → is_here node (address_as world.names at) ≡ b → b ≡ false
+      away node own false e = refl
+      away node own true here =
+          let one : at ≡ by.node = sym back ∙ ap (called world.names) (node_is (address_as world.names at) node.own here) ∙ own in
+          let two : bytes_eq by.node at ≡ true = (bytes_eq-Decides by.node at).1 (sym one) in
+          absurd cc
+
+      asked_there : (node : NodeState) → called world.names node.own ≡ by.node → (n : ℕ) → (b : Bool) → b ≡ false
+          → cond b false (bytes_eq (called world.names node.own) by.node && same_process (process_called world.names (process_id node by.counter)) by && bytes_eq (called world.names (address_as world.names at)) at) ≡ true
+      asked_there node own n false e = watched (bytes_eq (called world.names node.own) by.node) (same_process (process_called world.names (process_id node by.counter)) by) (bytes_eq (called world.names (address_as world.names at)) at)
+          (name_same world.names node by.node own) (process_own world.names node by by.counter own refl) (ap (λ (y : List ℕ). bytes_eq y at) back ∙ bytes_same at)
+      asked_there node own n true e = absurd cc
+
+-- a line that has no own entry asks for none
+none_of_own : (journal : List Line) (log : List Entry) (what : What) (done : Answered) → has_own log what ≡ false → AnsweredOwn journal log what done
+none_of_own journal log what (Err stop) e = tt
+none_of_own journal log what (Ok done) e = by_verdict done.0.0 where
+  by_verdict : (v : Verdict) → OwnFirst journal log what v done.0.1
+  by_verdict verdicts.Ok = ap (λ b. not b || next_is (is_own journal log what) done.0.1) e
+  by_verdict verdicts.Unknown = tt
+  by_verdict v = tt
+
+no_doom_here : (a b : Bool) → not a ≡ true → (a && b) ≡ false
+no_doom_here false b e = refl
+no_doom_here true b e = absurd cc
+
 pub node_line_own : (journal : List Line) → AreApart (names_of journal) → (log : List Entry) (what : What) (world : World) → begins_own (names_of journal) what ≡ true → Good journal log world × Housed journal world → AnsweredOwn journal log what (line_done what world)
 node_line_own journal apart log (lines.Proc node) world of i = makes_own journal log node world i.1 apart of
 node_line_own journal apart log (lines.Shut node) world of i = shuts_own journal log node world i.1 apart of
@@ -398,6 +450,9 @@ node_line_own journal apart log (lines.Unwatch by watch) world of i = unwatches_
 node_line_own journal apart log (lines.Register by name) world of i = registers_own journal log by name world i.1 apart of
 node_line_own journal apart log (lines.Unregister by name) world of i = unregisters_own journal log by name world i.1 apart of
 node_line_own journal apart log (lines.Spawn by at label args) world of i = spawns_own journal log by at label args world i.1 apart of
+node_line_own journal apart log (lines.Whereis by at name) world of i = asks_where_own journal log by at name world i.1 apart of
+node_line_own journal apart log (lines.Exit by target text) world of i = none_of_own journal log (lines.Exit by target text) (line_done (lines.Exit by target text) world) (no_doom_here (bytes_eq by.node target.node) (is_live log target) of)
+node_line_own journal apart log (lines.Kill by target text) world of i = none_of_own journal log (lines.Kill by target text) (line_done (lines.Kill by target text) world) (no_doom_here (bytes_eq by.node target.node) (is_live log target) of)
 node_line_own journal apart log what world of i = line_own journal log what world of i.0
 
 pub both_kept : (journal : List Line) → AllKeep (λ l w. Good journal l w × Housed journal w)

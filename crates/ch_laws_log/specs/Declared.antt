@@ -1,5 +1,6 @@
 -- Names that are declared, each at an address of its own, and the lines of declared nodes.
-use Rattle.std.specs.Prelude.{◌≡◌, ℕ, Bool, ◌&&◌, List, [], ◌∷◌, find, is_some, None}
+use Rattle.std.specs.Prelude.{◌≡◌, ℕ, Bool, not, ◌&&◌, List, [], ◌∷◌, find, is_some, None}
+use Rattle.std.specs.Str.{bytes_eq}
 use Rattle.ch_watch.specs.Same.{same_node}
 use Rattle.ch_model.specs.declared.line.What.{What}
 use Rattle.ch_model.specs.declared.line.What.TheVariants as lines
@@ -19,7 +20,7 @@ is_declared known name = is_some (find (is_named name) known)
 
 -- The line is of a declared node that is shut or makes a process, or of a process of one: what it says, takes and
 -- opens, what it watches, which names it registers, what it spawns, and its end. What it says and watches is of a
--- declared node, and it spawns at one. Or the line is of the network.
+-- declared node, and it spawns at one. It asks for names, and dooms, at other nodes alone. Or the line is of the network.
 abbrev pub begins_own : List Named → What → Bool
 begins_own known (lines.Proc node) = is_declared known node
 begins_own known (lines.Shut node) = is_declared known node
@@ -38,4 +39,7 @@ begins_own known (lines.Unwatch by watch) = is_declared known by.node && is_decl
 begins_own known (lines.Register by name) = is_declared known by.node
 begins_own known (lines.Unregister by name) = is_declared known by.node
 begins_own known (lines.Spawn by at label args) = is_declared known by.node && is_declared known at
+begins_own known (lines.Whereis by at name) = not (bytes_eq by.node at) && is_declared known by.node && is_declared known at
+begins_own known (lines.Exit by target text) = not (bytes_eq by.node target.node)
+begins_own known (lines.Kill by target text) = not (bytes_eq by.node target.node)
 begins_own known what = is_of_network what

@@ -65,9 +65,9 @@ pub fn own_entry_first()
 
 /// So does each line that a declared node hears: one that makes a process or shuts the node, and one by which a process
 /// sends, reconnects, receives, opens a port, takes from it, watches or takes a watch back, registers or unregisters a name,
-/// spawns, ends, fails or falls. So it is for journals of rising numbers with such lines and those above, where no two names are
-/// declared at one address, and where the nodes of the lines and of what they send to, watch or spawn at are declared. A journal of
-/// two nodes is such.
+/// spawns, ends, fails or falls, or asks another node for a name. An exit or kill at another node has none. So it is for
+/// journals of rising numbers with such lines and those above, where no two names are declared at one address, and where the
+/// nodes of the lines and of what they send to, watch, spawn at or ask are declared. A journal of two nodes is such.
 pub fn own_entry_of_nodes_first()
     ensures law { (least : ℕ) (journal : List Line) (log : List Entry) → AreNumbered least journal → AreApart (names_of journal) → AllLines (begins_own (names_of journal)) journal → log_of journal ≡ Ok log → IsTrue (each_between (has_own_first journal) log) }
     ensures such { AreNumbered 0 sends_to_another × AreApart (names_of sends_to_another) × AllLines (begins_own (names_of sends_to_another)) sends_to_another }
