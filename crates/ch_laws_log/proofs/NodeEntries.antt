@@ -39,7 +39,7 @@ use Rattle.ch_model.specs.Life.{is_live}
 use Rattle.ch_model.specs.Logs.{next_is}
 use Rattle.ch_model.specs.Naming.{Names, address_as, called, process_as, target_as, reference_as, process_called, target_called}
 use Rattle.ch_model.specs.Node.{node_make, node_command, node_shut, target_node}
-use Rattle.ch_model.specs.NodeIds.{process_id, is_here, reference_to}
+use Rattle.ch_model.specs.NodeIds.{process_id, is_here}
 use Rattle.ch_static.specs.declared.closure.Closure.{Closure}
 use Rattle.ch_watch.specs.Same.{same_node}
 use Rattle.ch_model.specs.NodePairs.{pair_of}
