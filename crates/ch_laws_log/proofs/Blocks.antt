@@ -241,38 +241,45 @@ settled_between journal log number world (Some (Ok done)) found u = λ after h. 
 settled_between journal log number world (Some (Err stop)) found u = tt
 
 -- such a line, where it is done, begins with its own entry
-abbrev pub BeginsOwn : List Line → (What → Bool) → Type 0
-BeginsOwn journal test = (log : List Entry) (what : What) (world : World) → test what ≡ true → Good journal log world → AnsweredOwn journal log what (line_done what world)
+abbrev pub BeginsOwn : List Line → (List Entry → World → Type 0) → (What → Bool) → Type 0
+BeginsOwn journal I test = (log : List Entry) (what : What) (world : World) → test what ≡ true → I log world → AnsweredOwn journal log what (line_done what world)
 
-event_between : (journal : List Line) (test : What → Bool) → BeginsOwn journal test → (log : List Entry) (number : ℕ) (what : What) (world : World) → test what ≡ true → line_numbered journal number ≡ Some what → Good journal log world → PassesBetween journal log (event_step number what world)
-event_between journal test own log number lines.Settle world of found g = settled_between journal log number world (settles world) found (settled_unmarked (weight_of world) from_start world)
-event_between journal test own log number what world of found g = answered_between journal log number what (line_done what world) found (done_unmarked what world) (own log what world of g)
+-- each line keeps what holds of the log and the world
+abbrev pub AllKeep : (List Entry → World → Type 0) → Type 0
+AllKeep I = (log : List Entry) (world : World) (number : ℕ) (what : What) → I log world → LedOn I log (world_step world (record { number = number; what = what }))
+
+pub good_kept : (journal : List Line) → AllKeep (Good journal)
+good_kept journal log world number what g = step_led (Good journal) (keeps_good journal) log world number what (any_line what) g
+
+event_between : (journal : List Line) (I : List Entry → World → Type 0) (test : What → Bool) → BeginsOwn journal I test → (log : List Entry) (number : ℕ) (what : What) (world : World) → test what ≡ true → line_numbered journal number ≡ Some what → I log world → PassesBetween journal log (event_step number what world)
+event_between journal I test own log number lines.Settle world of found g = settled_between journal log number world (settles world) found (settled_unmarked (weight_of world) from_start world)
+event_between journal I test own log number what world of found g = answered_between journal log number what (line_done what world) found (done_unmarked what world) (own log what world of g)
 
 nothing_between : (journal : List Line) (log after : List Entry) → each_between_after (has_own_first journal) (log ++ []) after ≡ true → each_between_after (has_own_first journal) log after ≡ true
 nothing_between journal log after h = subst (λ (l : List Entry). each_between_after (has_own_first journal) l after ≡ true) (append-nil log) h
 
-step_between : (journal : List Line) (test : What → Bool) → BeginsOwn journal test → (log : List Entry) (number : ℕ) (what : What) (world : World) → test what ≡ true → line_numbered journal number ≡ Some what → Good journal log world → PassesBetween journal log (world_step world (record { number = number; what = what }))
-step_between journal test own log number (lines.Node name address unique) world of found g = nothing_between journal log
-step_between journal test own log number (lines.Away name address unique) world of found g = nothing_between journal log
-step_between journal test own log number (lines.Label node label) world of found g = nothing_between journal log
-step_between journal test own log number (lines.Stranger name host) world of found g = nothing_between journal log
-step_between journal test own log number what world of found g = event_between journal test own log number what world of found g
+step_between : (journal : List Line) (I : List Entry → World → Type 0) (test : What → Bool) → BeginsOwn journal I test → (log : List Entry) (number : ℕ) (what : What) (world : World) → test what ≡ true → line_numbered journal number ≡ Some what → I log world → PassesBetween journal log (world_step world (record { number = number; what = what }))
+step_between journal I test own log number (lines.Node name address unique) world of found g = nothing_between journal log
+step_between journal I test own log number (lines.Away name address unique) world of found g = nothing_between journal log
+step_between journal I test own log number (lines.Label node label) world of found g = nothing_between journal log
+step_between journal I test own log number (lines.Stranger name host) world of found g = nothing_between journal log
+step_between journal I test own log number what world of found g = event_between journal I test own log number what world of found g
 
-all_between : (journal : List Line) (test : What → Bool) → BeginsOwn journal test → (rest : List Line) (log : List Entry) (world : World) → Found journal rest → AllLines test rest → Good journal log world → PassesBetween journal log (log_from world rest)
-all_between journal test own [] log world found of g = nothing_between journal log
-all_between journal test own (line ∷ rest) log world found of g =
-    by_step (world_step world line) (step_between journal test own log line.number line.what world of.0 found.0 g) (step_led (Good journal) (keeps_good journal) log world line.number line.what (any_line line.what) g) (λ l w h. all_between journal test own rest l w found.1 of.1 h) where
+all_between : (journal : List Line) (I : List Entry → World → Type 0) (test : What → Bool) → BeginsOwn journal I test → AllKeep I → (rest : List Line) (log : List Entry) (world : World) → Found journal rest → AllLines test rest → I log world → PassesBetween journal log (log_from world rest)
+all_between journal I test own kept [] log world found of g = nothing_between journal log
+all_between journal I test own kept (line ∷ rest) log world found of g =
+    by_step (world_step world line) (step_between journal I test own log line.number line.what world of.0 found.0 g) (kept log world line.number line.what g) (λ l w h. all_between journal I test own kept rest l w found.1 of.1 h) where
       by_rest : (told : List Entry) (w : World) (more : Happened) → PassesBetween journal log (Ok (told, w)) → PassesBetween journal (log ++ told) more → PassesBetween journal log (more >>= λ more. Ok (told ++ more.0, more.1))
       by_rest told w (Ok more) p q = λ after h. subst (λ (l : List Entry). each_between_after (has_own_first journal) log l ≡ true) (sym (append_assoc told more.0 after))
           (p (more.0 ++ after) (q after (subst (λ (l : List Entry). each_between_after (has_own_first journal) l after ≡ true) (sym (append_assoc log told more.0)) h)))
       by_rest told w (Err stop) p q = tt
 
-      by_step : (one : Happened) → PassesBetween journal log one → LedOn (Good journal) log one → ((l : List Entry) (w : World) → Good journal l w → PassesBetween journal l (log_from w rest)) → PassesBetween journal log (one >>= λ done. log_from done.1 rest >>= λ more. Ok (done.0 ++ more.0, more.1))
+      by_step : (one : Happened) → PassesBetween journal log one → LedOn I log one → ((l : List Entry) (w : World) → I l w → PassesBetween journal l (log_from w rest)) → PassesBetween journal log (one >>= λ done. log_from done.1 rest >>= λ more. Ok (done.0 ++ more.0, more.1))
       by_step (Ok done) p g more = by_rest done.0 done.1 (log_from done.1 rest) p (more (log ++ done.0) done.1 g)
       by_step (Err stop) p g more = tt
 
-pub all_own : (least : ℕ) (journal : List Line) (test : What → Bool) (log : List Entry) → BeginsOwn journal test → AreNumbered least journal → AllLines test journal → log_of journal ≡ Ok log → IsTrue (each_between_after (has_own_first journal) [] log)
-all_own least journal test log own numbered of is = by_log (log_from (world_new journal) journal) (all_between journal test own journal [] (world_new journal) (found_all least journal numbered) of (fresh journal)) is where
+pub all_own : (least : ℕ) (journal : List Line) (I : List Entry → World → Type 0) (test : What → Bool) (log : List Entry) → BeginsOwn journal I test → AllKeep I → I [] (world_new journal) → AreNumbered least journal → AllLines test journal → log_of journal ≡ Ok log → IsTrue (each_between_after (has_own_first journal) [] log)
+all_own least journal I test log own kept first numbered of is = by_log (log_from (world_new journal) journal) (all_between journal I test own kept journal [] (world_new journal) (found_all least journal numbered) of first) is where
   by_log : (done : Happened) → PassesBetween journal [] done → (done >>= λ done. Ok done.0) ≡ Ok log → IsTrue (each_between_after (has_own_first journal) [] log)
   by_log (Ok done) p e = let same : done.0 ≡ log = cc in subst (λ (l : List Entry). each_between_after (has_own_first journal) [] l ≡ true) (append-nil done.0 ∙ same) (p [] refl)
   by_log (Err stop) p e = absurd cc

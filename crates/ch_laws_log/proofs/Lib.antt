@@ -7,6 +7,12 @@ pub mod Agreeing
 pub mod Told
 pub mod Blocks
 pub mod OwnEntries
+pub mod Homes
+pub mod Takes
+pub mod Keys
+pub mod Begins
+pub mod NodeEntries
+pub mod FedOwn
 pub mod Tested
 pub mod Feeding
 pub mod Happens

@@ -280,11 +280,11 @@ or_always : (b : Bool) → (b || true) ≡ true
 or_always true = refl
 or_always false = refl
 
-own_told : (journal : List Line) (log : List Entry) (what : What) (answer : Verdict) (entry : Entry) (more : List Entry) → is_own journal log what entry ≡ true → OwnFirst journal log what answer (entry ∷ more)
+pub own_told : (journal : List Line) (log : List Entry) (what : What) (answer : Verdict) (entry : Entry) (more : List Entry) → is_own journal log what entry ≡ true → OwnFirst journal log what answer (entry ∷ more)
 own_told journal log what verdicts.Ok entry more e = ap (λ b. not (has_own log what) || b) e ∙ or_always (not (has_own log what))
 own_told journal log what answer entry more e = tt
 
-own_entry : (journal : List Line) (log : List Entry) (what : What) (entry : Entry) (done : Answered) → is_own journal log what entry ≡ true → AnsweredOwn journal log what (after_entry entry done)
+pub own_entry : (journal : List Line) (log : List Entry) (what : What) (entry : Entry) (done : Answered) → is_own journal log what entry ≡ true → AnsweredOwn journal log what (after_entry entry done)
 own_entry journal log what entry (Ok done) e = own_told journal log what done.0.0 entry done.0.1 e
 own_entry journal log what entry (Err stop) e = tt
 
@@ -310,7 +310,7 @@ comes_own journal log sock s world e = by_place s.t.cell where
   by_place None = tt
   by_place (Some place) = own_entry journal log (lines.Come sock) (entries.Came s.name) (comes_at place s world) e
 
-same_end_self : (e : End) → same_end e e ≡ true
+pub same_end_self : (e : End) → same_end e e ≡ true
 same_end_self O = refl
 same_end_self T = refl
 

@@ -18,7 +18,7 @@ use Rattle.ch_model.specs.WorldState.{WorldSocket, World}
 pub number_is : (a b : ℕ) → (a == b) ≡ true → a ≡ b
 number_is a b e = grind (arith, nat_tests)
 
-number_same : (a : ℕ) → (a == a) ≡ true
+pub number_same : (a : ℕ) → (a == a) ≡ true
 number_same a = grind (arith, nat_tests)
 
 pub bytes_same : (a : List ℕ) → bytes_eq a a ≡ true

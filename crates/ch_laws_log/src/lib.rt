@@ -9,6 +9,7 @@ ghost use Rattle.std.specs.List.{list_any};
 ghost use Rattle.ch_base.specs.declared.address.Address.{Address};
 ghost use Rattle.ch_model.specs.declared.entry.Entry.{Entry};
 ghost use Rattle.ch_model.specs.declared.entry.Verdict.{Verdict};
+ghost use Rattle.ch_model.specs.declared.entry.Verdict.TheVariants as verdicts;
 ghost use Rattle.ch_model.specs.declared.line.Line.{Line};
 ghost use Rattle.ch_model.specs.declared.line.What.TheVariants as events;
 ghost use Rattle.ch_model.specs.declared.local.LocalEntry.{LocalEntry};
@@ -28,17 +29,20 @@ ghost use Rattle.ch_model.specs.HasAnswers.{marks_all, is_of_done, has_own_first
 ghost use Rattle.ch_model.specs.Host.{host_on, host_next};
 ghost use Rattle.ch_model.specs.HostCalls.{host_new, host_connect, host_send, host_close, host_close_endpoint};
 ghost use Rattle.ch_model.specs.HostState.{HostState};
-ghost use Rattle.ch_model.specs.Logs.{each, each_between, some_and};
+ghost use Rattle.ch_model.specs.AnswersOwn.{is_own};
+ghost use Rattle.ch_model.specs.Logs.{each, each_between, next_is, some_and};
 ghost use Rattle.ch_model.specs.Sockets.{is_opening};
 ghost use Rattle.ch_model.specs.Stages.{Pending, Open};
-ghost use Rattle.ch_model.specs.World.{world_new, log_from, log_of};
+ghost use Rattle.ch_model.specs.World.{names_of, world_new, log_from, log_of};
 ghost use Rattle.ch_model.specs.WorldLines.{can_join, can_come, can_feed, line_done};
 ghost use Rattle.ch_model.specs.WorldSockets.{is_socket_named};
 ghost use Rattle.ch_model.specs.WorldState.{Cell, WorldSocket, World};
 ghost use Rattle.ch_model.specs.WorldSteps.{all_told};
 ghost use Rattle.ch_laws_log.specs.Agrees.{IsPlaced, IsOwned, AllPlaced, IsAsTold, is_refusal};
+ghost use Rattle.ch_laws_log.specs.Declared.{AreApart, begins_own};
 ghost use Rattle.ch_laws_log.specs.HostEnds.{stage_at, IsSound, Tells, AllTold, opens_nothing, opens_no_end, steps_in, AreNewTo, stage_after_all};
 ghost use Rattle.ch_laws_log.specs.Lines.{AllLines, AreNumbered, is_of_no_end, is_of_network, feeds_some, is_without_refusal};
+ghost use Rattle.ch_laws_log.specs.Scenes.{sends_to_another};
 ghost use Rattle.ch_laws_log.specs.WorldEnds.{stage_held, stage_there};
 
 /// The log of a journal marks each of its event lines once, in order, and no other line: whatever lines it has, in a
@@ -57,6 +61,16 @@ pub fn done_lines_alone()
 /// timers: those that join, come, refuse, cut, lose, poke and quit, timers that are due, and settling, which has none.
 pub fn own_entry_first()
     ensures { (least : ℕ) (journal : List Line) (log : List Entry) → AreNumbered least journal → AllLines is_of_network journal → log_of journal ≡ Ok log → IsTrue (each_between (has_own_first journal) log) }
+{}
+
+/// So does each line that a declared node hears: one that makes a process or shuts the node, and one by which a process
+/// sends, reconnects, receives, opens a port, takes from it, watches or takes a watch back, registers or unregisters a name,
+/// spawns, ends, fails or falls, or asks another node for a name. An exit or kill at another node has none. So it is for
+/// journals of rising numbers with such lines and those above, where no two names are declared at one address, and where the
+/// nodes of the lines and of what they send to, watch, spawn at or ask are declared. A journal of two nodes is such.
+pub fn own_entry_of_nodes_first()
+    ensures law { (least : ℕ) (journal : List Line) (log : List Entry) → AreNumbered least journal → AreApart (names_of journal) → AllLines (begins_own (names_of journal)) journal → log_of journal ≡ Ok log → IsTrue (each_between (has_own_first journal) log) }
+    ensures such { AreNumbered 0 sends_to_another × AreApart (names_of sends_to_another) × AllLines (begins_own (names_of sends_to_another)) sends_to_another }
 {}
 
 /// After some lines, of whatever kind and settling included, the world has the sockets that the log opened, under
@@ -78,6 +92,14 @@ pub fn sockets_as_told()
 pub fn fed_was_unread()
     ensures unread_alone { (journal lines : List Line) (log : List Entry) (world : World) → log_from (world_new journal) lines ≡ Ok (log, world) → AllPlaced journal world → list_any is_refusal log ≡ false → IsTrue (each (feeds_the_unread journal) log) }
     ensures true_ends { (journal lines : List Line) (log : List Entry) (world : World) → AllLines feeds_some lines → log_from (world_new journal) lines ≡ Ok (log, world) → AllPlaced journal world → list_any is_refusal log ≡ false → IsTrue (each (feeds_the_end journal) log) }
+{}
+
+/// A line that feeds, where it is done, has its own entry first: so many bytes as it asks for, and no more than were unread
+/// by the log. So it is after any lines, where each target's end is of a cell exactly if its name leads to a host, and
+/// this dial wasn't refused.
+pub fn fed_entry_first()
+    ensures { (journal lines : List Line) (log : List Entry) (world : World) (s : SockName) (e : End) (count : ℕ) (told : List Entry) (after : World) → log_from (world_new journal) lines ≡ Ok (log, world) → AllPlaced journal world → list_any (refuses s) log ≡ false
+        → line_done (events.Feed s e count) world ≡ Ok ((verdicts.Ok, told), after) → IsTrue (next_is (is_own journal log (events.Feed s e count)) told) }
 {}
 
 /// No dial is refused where no line refuses one or settles.
