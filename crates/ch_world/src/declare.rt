@@ -328,12 +328,7 @@ impl Realm {
     }
 
     /// The world of these names and hosts, where nothing was said.
-    fn begun(
-        names: Names,
-        strangers: Vec<Stranger>,
-        cells: Vec<Hosted>,
-        sockets: Sockets,
-    ) -> Realm
+    fn begun(names: Names, strangers: Vec<Stranger>, cells: Vec<Hosted>, sockets: Sockets) -> Realm
         ensures { result ≡ record { names = names; strangers = strangers.items; cells = cells.items; sockets = sockets; last = None } }
     {
         Realm {
