@@ -1,4 +1,5 @@
 pub mod Cuts
+pub mod Worlds
 pub mod Turns
 pub mod LinesRead
 pub mod Pieces

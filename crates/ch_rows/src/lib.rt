@@ -2,6 +2,4 @@
 #![tactic(auto)]
 
 #[cfg(test)]
-mod many_nodes;
-#[cfg(test)]
 mod replay;

@@ -1,5 +1,0 @@
-pub mod Worlds
-pub mod Order
-pub mod ManyNodes
-pub mod OneOfMany
-pub mod OneAsMany
