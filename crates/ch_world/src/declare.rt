@@ -305,25 +305,38 @@ fn cells(
     Ok(cells)
 }
 
+/// The hosts of declared nodes, each with its nodes, in order of declaration.
+fn hosts(alloc: Global, lines: &[Line]) -> Result<Vec<Hosted>, OutOfMemory>
+    ensures { IfOk result (λ cells. cells.items ≡ (world_new lines.now).cells) }
+{
+    let nodes = nodes(alloc, lines)?;
+    let circle = circle(alloc, nodes.as_slice())?;
+    let addresses = firsts(alloc, nodes.as_slice())?;
+    cells(
+        alloc,
+        lines,
+        circle.as_slice(),
+        nodes.as_slice(),
+        addresses.as_slice(),
+    )
+}
+
 impl Realm {
     /// The world that these declarations make, where nothing has happened. Of lines that are no declarations nothing is
     /// read. A label that is declared twice for one node is refused as want of memory is.
     pub fn new(alloc: Global, declared: &Declared) -> Result<Realm, OutOfMemory>
         ensures { IfOk result (λ realm. realm ≡ world_new declared.now) }
     {
-        let lines = declared.lines.as_slice();
+        Realm::of_lines(alloc, declared.lines.as_slice())
+    }
+
+    /// The world that these lines make.
+    fn of_lines(alloc: Global, lines: &[Line]) -> Result<Realm, OutOfMemory>
+        ensures { IfOk result (λ realm. realm ≡ world_new lines.now) }
+    {
         let names = names(alloc, lines)?;
-        let nodes = nodes(alloc, lines)?;
-        let circle = circle(alloc, nodes.as_slice())?;
-        let addresses = firsts(alloc, nodes.as_slice())?;
-        let cells = cells(
-            alloc,
-            lines,
-            circle.as_slice(),
-            nodes.as_slice(),
-            addresses.as_slice(),
-        )?;
         let strangers = strangers(alloc, lines)?;
+        let cells = hosts(alloc, lines)?;
         Ok(Realm::begun(names, strangers, cells, Sockets::new(alloc)))
     }
 
