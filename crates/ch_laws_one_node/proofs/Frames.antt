@@ -1,4 +1,5 @@
--- A message of a line that is read fits in one frame, as the line has a limit.
+-- A message of a line that is read fits in one frame, as the line has a limit, where what a line says is no longer
+-- than the line.
 use Rattle.std.specs.Prelude.{◌≡◌, ℕ, suc, ◌+◌, ◌-◌, ◌%◌, ◌≤◌, Bool, true, false, not, cond, List, [], ◌∷◌, length, Option, Some, None, Result, Ok, Err, nat_lt, ◌==◌, if◌then◌else◌, codes}
 use Rattle.std.specs.Str.{bytes_eq}
 use Rattle.std.proofs.Common.{refl, sym, subst, arith}
@@ -20,7 +21,7 @@ use Rattle.ch_model.specs.FieldsOfNames.{process_of, numbered}
 use Rattle.ch_model.specs.LinesTold.{Told, untold, declared_in}
 use Rattle.ch_model.specs.LinesDeclared.{place_line, node_line}
 use Rattle.ch_model.specs.LinesOfProcesses.{process_alone, process_and_word, proc_line, recv_line, end_line}
-use Rattle.ch_model.specs.Lines.{line_of_word, line_said, said_and_told, read_line, header}
+use Rattle.ch_model.specs.Lines.{Built, line_of_word, line_said, said_and_told, read_line, header}
 use Rattle.ch_model.specs.LinesBuilt.{is_bare, only_node_line, send_process_line, one_node}
 use Rattle.ch_model.specs.Journal.{Scan, stopped, is_too_long, size_of, scan_from, scan_lines, longest_journal, longest_line}
 use Rattle.ch_model.specs.NodeRoom.{longest}
@@ -31,7 +32,7 @@ use Rattle.ch_laws_one_node.proofs.Reading.{Gives, then_gives, with_gives, if_gi
 -- ---- a line's fields are no longer than the line
 
 -- how much is left of a line
-abbrev left : Option (List ℕ) → ℕ
+abbrev pub left : Option (List ℕ) → ℕ
 left None = 0
 left (Some text) = length text
 
@@ -54,10 +55,10 @@ at_byte_within c (b ∷ bs) = by_test (b == c) (at_byte c bs) (at_byte_within c 
     rest n = omega arith
   by_test false x h = longer x h
 
-abbrev FieldWithin : ℕ → List ℕ × Option (List ℕ) → Type 0
+abbrev pub FieldWithin : ℕ → List ℕ × Option (List ℕ) → Type 0
 FieldWithin most field = length field.0 + left field.1 ≤ most
 
-field_within : (rest : Option (List ℕ)) → Gives (FieldWithin (left rest)) (field_of rest)
+pub field_within : (rest : Option (List ℕ)) → Gives (FieldWithin (left rest)) (field_of rest)
 unfolding field_of
 field_within None = record { given = tt }
 field_within (Some text) = record { given = by_parts (at_byte 32 text) (at_byte_within 32 text) } where
@@ -117,14 +118,14 @@ bytes_within field = if_gives _ (is_dash field) _ _ (record { given = none (leng
 -- ---- what each line says
 
 -- a message that is sent is no longer than what says it
-abbrev SaidWithin : ℕ → What → Type 0
+abbrev pub SaidWithin : ℕ → What → Type 0
 SaidWithin most (Send by to mark body) = length mark + length body ≤ most
 SaidWithin most what = Unit {0}
 
 sum_within : (all by a to b mark c body d word bytes : ℕ) → by + a ≤ all → to + b ≤ a → mark + c ≤ b → body + d ≤ c → word ≤ mark → bytes ≤ body → word + bytes ≤ all
 sum_within all by a to b mark c body d word bytes h1 h2 h3 h4 h5 h6 = omega arith
 
-send_within : (told : Told) (rest : Option (List ℕ)) → Gives (SaidWithin (left rest)) (send_process_line told rest)
+pub send_within : (told : Told) (rest : Option (List ℕ)) → Gives (SaidWithin (left rest)) (send_process_line told rest)
 unfolding send_process_line
 send_within told rest =
     with_gives _ _ (field_of rest) _ (field_within rest) λ by h1.
@@ -147,7 +148,7 @@ node_within most told rest =
     then_gives _ (need Form (is_bare told.declarations) true) _ λ first.
     then_gives _ (place_line told rest) _ λ place. record { given = tt }
 
-proc_within : (most : ℕ) (told : Told) (rest : Option (List ℕ)) → Gives (SaidWithin most) (proc_line told rest)
+pub proc_within : (most : ℕ) (told : Told) (rest : Option (List ℕ)) → Gives (SaidWithin most) (proc_line told rest)
 unfolding proc_line
 proc_within most told rest =
     then_gives _ (field_of rest) _ λ name.
@@ -155,11 +156,11 @@ proc_within most told rest =
     then_gives _ (node_name_of name.0) _ λ named.
     then_gives _ (declared_in told named) _ λ own. record { given = tt }
 
-recv_within : (most : ℕ) (told : Told) (rest : Option (List ℕ)) → Gives (SaidWithin most) (recv_line told rest)
+pub recv_within : (most : ℕ) (told : Told) (rest : Option (List ℕ)) → Gives (SaidWithin most) (recv_line told rest)
 unfolding recv_line
 recv_within most told rest = then_gives _ (process_and_word told rest) _ λ taker. record { given = tt }
 
-end_within : (most : ℕ) (told : Told) (rest : Option (List ℕ)) → Gives (SaidWithin most) (end_line told rest)
+pub end_within : (most : ℕ) (told : Told) (rest : Option (List ℕ)) → Gives (SaidWithin most) (end_line told rest)
 unfolding end_line
 end_within most told rest = then_gives _ (process_alone told rest) _ λ process. record { given = tt }
 
@@ -172,13 +173,13 @@ word_within_line told word rest =
     if_gives _ (bytes_eq word (codes "proc")) _ _ (proc_within (left rest) told rest) (
     if_gives _ (bytes_eq word (codes "node")) _ (Err Form) (node_within (left rest) told rest) (record { given = tt })))))
 
-longer : (most more : ℕ) (what : What) → most ≤ more → SaidWithin most what → SaidWithin more what
+pub longer : (most more : ℕ) (what : What) → most ≤ more → SaidWithin most what → SaidWithin more what
 longer most more (Send by to mark body) h s = above (length mark + length body) most more s h where
   above : (n k l : ℕ) → n ≤ k → k ≤ l → n ≤ l
   above n k l h g = omega arith
 longer most more what h s = tt
 
-gives_more : {A : Type 0} (P Q : A → Type 0) → ((a : A) → P a → Q a) → (r : Result A BadKind) → Gives P r → Gives Q r
+pub gives_more : {A : Type 0} (P Q : A → Type 0) → ((a : A) → P a → Q a) → (r : Result A BadKind) → Gives P r → Gives Q r
 gives_more P Q f (Ok a) g = record { given = f a g.given }
 gives_more P Q f (Err kind) g = record { given = tt }
 
@@ -194,12 +195,12 @@ line_within told text = with_gives _ _ (field_of (Some text)) _ (field_within (S
 under_limits : (n k : ℕ) → n ≤ k → k ≤ longest_line → suc n ≤ longest
 under_limits n k h g = omega arith
 
-framed : (most : ℕ) (what : What) → most ≤ longest_line → SaidWithin most what → FitsFrame what
+pub framed : (most : ℕ) (what : What) → most ≤ longest_line → SaidWithin most what → FitsFrame what
 framed most (Send by to mark body) h s = subst (λ n. suc n ≤ longest) (sym (length-append mark body)) (under_limits (length mark + length body) most s h)
 framed most what h s = tt
 
 -- what a line says fits
-abbrev FitsOr : Option What × Told → Type 0
+abbrev pub FitsOr : Option What × Told → Type 0
 FitsOr (None, after) = Unit {0}
 FitsOr (Some what, after) = FitsFrame what
 
@@ -213,13 +214,13 @@ reads_framed told text short = by_header told.header where
   by_header true = by_said (line_said one_node told text) (line_within told text)
   by_header false = if_gives _ (bytes_eq text header) _ (Err Form) (record { given = tt }) (record { given = tt })
 
-lines_framed : (told : Told) (number room : ℕ) (raw : List (List ℕ × Bool)) → FitFrames (scan_from one_node told number room raw).lines
-lines_framed told number room [] = tt
-lines_framed told number room (line ∷ raw) = subst (λ s. FitFrames s.lines) (sym (scan_is told number room line raw)) (by_long (is_too_long room line) refl (read_line one_node told line.0) (reads_framed told line.0) (λ after. lines_framed after (number + 1) (room - size_of line) raw)) where
+pub lines_framed : (built : Built) → ((told : Told) (text : List ℕ) → length text ≤ longest_line → Gives FitsOr (read_line built told text)) → (told : Told) (number room : ℕ) (raw : List (List ℕ × Bool)) → FitFrames (scan_from built told number room raw).lines
+lines_framed built reads told number room [] = tt
+lines_framed built reads told number room (line ∷ raw) = subst (λ s. FitFrames s.lines) (sym (scan_is built told number room line raw)) (by_long (is_too_long room line) refl (read_line built told line.0) (reads told line.0) (λ after. lines_framed built reads after (number + 1) (room - size_of line) raw)) where
   after : Told → Scan
-  after told = scan_from one_node told (number + 1) (room - size_of line) raw
+  after told = scan_from built told (number + 1) (room - size_of line) raw
 
-  by_long : (b : Bool) → is_too_long room line ≡ b → (r : Result (Option What × Told) BadKind) → (length line.0 ≤ longest_line → Gives FitsOr r) → ((t : Told) → FitFrames (after t).lines) → FitFrames (if b then stopped number TooLong else after_read number (room - size_of line) raw r).lines
+  by_long : (b : Bool) → is_too_long room line ≡ b → (r : Result (Option What × Told) BadKind) → (length line.0 ≤ longest_line → Gives FitsOr r) → ((t : Told) → FitFrames (after t).lines) → FitFrames (if b then stopped number TooLong else after_read built number (room - size_of line) raw r).lines
   by_long true long r g rest = tt
   by_long false fits (Err kind) g rest = tt
   by_long false fits (Ok (None, t)) g rest = rest t
@@ -227,4 +228,4 @@ lines_framed told number room (line ∷ raw) = subst (λ s. FitFrames s.lines) (
 
 pub all_framed : (raw : List (List ℕ × Bool)) → FitFrames (scan_lines one_node raw).lines
 all_framed [] = tt
-all_framed (line ∷ raw) = lines_framed untold 1 longest_journal (line ∷ raw)
+all_framed (line ∷ raw) = lines_framed one_node reads_framed untold 1 longest_journal (line ∷ raw)

@@ -202,11 +202,11 @@ none_from (Some current) = tt
 
 pub lines_fit : (told : Told) (current : Option (List ℕ)) → AreOf current told.declarations → (number room : ℕ) (raw : List (List ℕ × Bool)) → AreFrom current (scan_from one_node told number room raw).lines
 lines_fit told current of number room [] = none_from current
-lines_fit told current of number room (line ∷ raw) = subst (λ s. AreFrom current s.lines) (sym (scan_is told number room line raw)) (by_long (is_too_long room line) (read_line one_node told line.0) (reads told current of line.0) (λ after. λ n d. lines_fit after n d (number + 1) (room - size_of line) raw)) where
+lines_fit told current of number room (line ∷ raw) = subst (λ s. AreFrom current s.lines) (sym (scan_is one_node told number room line raw)) (by_long (is_too_long room line) (read_line one_node told line.0) (reads told current of line.0) (λ after. λ n d. lines_fit after n d (number + 1) (room - size_of line) raw)) where
   after : Told → Scan
   after told = scan_from one_node told (number + 1) (room - size_of line) raw
 
-  by_long : (b : Bool) (r : Result (Option What × Told) BadKind) → Gives (Reads told current) r → ((t : Told) → Rest t (after t).lines) → AreFrom current (if b then stopped number TooLong else after_read number (room - size_of line) raw r).lines
+  by_long : (b : Bool) (r : Result (Option What × Told) BadKind) → Gives (Reads told current) r → ((t : Told) → Rest t (after t).lines) → AreFrom current (if b then stopped number TooLong else after_read one_node number (room - size_of line) raw r).lines
   by_long true r g rest = none_from current
   by_long false (Err kind) g rest = none_from current
   by_long false (Ok (None, t)) g rest = rest t current (subst (λ d. AreOf current d) (sym g.given) of)

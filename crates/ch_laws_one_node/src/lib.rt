@@ -44,7 +44,7 @@ pub fn within_limits()
 pub fn ends_in_place()
     ensures looked_at { (bytes : List ℕ) → scan_of one_node (take (longest_journal + 1) bytes) ≡ scan_of one_node bytes }
     ensures numbered { (bytes : List ℕ) → AreNumbered 1 (journal_of one_node bytes) (first_fault one_node bytes) }
-    ensures first { (b : ℕ) (bytes : List ℕ) (number : ℕ) (fault : LineFault) → first_fault one_node (b ∷ bytes) ≡ Some (number, fault) → IsFirstFault (raw_lines (take (longest_journal + 1) (b ∷ bytes))) (journal_of one_node (b ∷ bytes)) number fault }
+    ensures first { (b : ℕ) (bytes : List ℕ) (number : ℕ) (fault : LineFault) → first_fault one_node (b ∷ bytes) ≡ Some (number, fault) → IsFirstFault one_node (raw_lines (take (longest_journal + 1) (b ∷ bytes))) (journal_of one_node (b ∷ bytes)) number fault }
 {}
 
 /// The whole model, with hosts, links and sockets, gives the same log of a journal of one node as the

@@ -1,8 +1,8 @@
 -- The first line of a text.
-use Rattle.std.proofs.Common.{◌≡◌, ℕ, suc, ◌+◌, ◌<◌, ◌≤◌, Bool, true, false, cond, List, [], ◌∷◌, ◌++◌, length, Option, Some, None, nat_lt, ◌==◌, refl, sym, ◌∙◌, ap, arith, add-one, IsTrue}
+use Rattle.std.proofs.Common.{◌≡◌, ℕ, suc, ◌+◌, ◌<◌, Bool, true, false, cond, List, [], ◌∷◌, length, Option, Some, None, ◌==◌, refl, ap, arith}
 use Rattle.ch_base.specs.Addresses.{after_front}
 use Rattle.ch_model.specs.Fields.{at_byte}
-use Rattle.ch_model.specs.Journal.{raw_lines, onto_first, size_of}
+use Rattle.ch_model.specs.Journal.{raw_lines, onto_first}
 
 -- a text that isn't empty and has no newline is one line without it
 pub without_newline : (text : List ℕ) → 0 < length text → at_byte 10 text ≡ None → raw_lines text ≡ (text, false) ∷ []

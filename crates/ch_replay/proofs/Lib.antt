@@ -1,5 +1,4 @@
 pub mod Cuts
-pub mod Worlds
 pub mod Turns
 pub mod LinesRead
 pub mod Pieces

@@ -1,10 +1,10 @@
 -- Pieces that are read and written, put together.
-use Rattle.std.proofs.Common.{◌≡◌, ℕ, zero, suc, ◌+◌, ◌-◌, ◌<◌, ◌≤◌, ◌^◌, List, [], ◌∷◌, ◌++◌, length, take, drop, Option, Some, None, refl, sym, ◌∙◌, ap, subst, append_assoc, arith, length-append}
+use Rattle.std.proofs.Common.{◌≡◌, ℕ, zero, suc, ◌+◌, ◌<◌, ◌≤◌, List, [], ◌∷◌, ◌++◌, length, take, drop, Option, Some, None, refl, sym, ◌∙◌, ap, subst, append_assoc, arith}
 use Rattle.std.proofs.lemmas.List.{append-nil, take-append-drop, length-take-le}
 use Rattle.std.proofs.Math.Seq.{take-append-add, take-append_seam}
 use Rattle.ch_base.specs.Outside.{Rose, Reads, Writes}
 use Rattle.ch_model.specs.Journal.{longest_journal}
-use Rattle.ch_replay.specs.Outside.{Taken, IsIntake, Appended, AppendedSome}
+use Rattle.ch_replay.specs.Outside.{Taken, IsIntake, Appended}
 
 -- a count that rose later rose since before, and one that rose has risen later too
 pub rose_since : (a b c : ℕ) → a ≤ b → Rose b c → Rose a c

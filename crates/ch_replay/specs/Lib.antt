@@ -1,5 +1,6 @@
+pub mod Running
+pub mod Steps
 pub mod Replayed
-pub mod Entries
 pub mod Outside
 pub mod Words
 pub mod Ends

@@ -1,5 +1,5 @@
 -- What a run has taken from its source and given to its sink.
-use Rattle.std.specs.Prelude.{◌≡◌, ℕ, ◌+◌, ◌<◌, ◌≤◌, List, [], ◌∷◌, ◌++◌, length, take, Option, Some, None}
+use Rattle.std.specs.Prelude.{◌≡◌, ℕ, ◌+◌, ◌<◌, List, [], ◌++◌, length, take, Option, Some, None}
 use Rattle.ch_model.specs.Journal.{longest_journal}
 
 -- these bytes stood in front of what is left now, where the source tells

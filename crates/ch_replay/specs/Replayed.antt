@@ -8,35 +8,36 @@ use Rattle.ch_model.specs.declared.refusal.BadKind.TheVariants.{Form}
 use Rattle.ch_model.specs.declared.refusal.LineFault.{LineFault}
 use Rattle.ch_model.specs.declared.refusal.LineFault.TheVariants.{Bad, TooLong}
 use Rattle.ch_model.specs.declared.line.What.{What}
-use Rattle.ch_one_node.specs.States.{World}
-use Rattle.ch_one_node.specs.World.{◌>>=◌, world_step}
+use Rattle.ch_model.specs.World.{◌>>=◌}
 use Rattle.ch_model.specs.LinesTold.{Told, untold}
 use Rattle.ch_model.specs.Lines.{read_line}
-use Rattle.ch_model.specs.LinesBuilt.{one_node}
+use Rattle.ch_model.specs.LinesBuilt.{many_nodes}
 use Rattle.ch_model.specs.Journal.{longest_journal, raw_lines, size_of, is_too_long}
 use Rattle.ch_model.specs.Spelling.{log_text}
-use Rattle.ch_lines.specs.declared.grammar.Grammar.TheVariants.{OneNode}
+use Rattle.ch_lines.specs.declared.grammar.Grammar.TheVariants.{ManyNodes}
 use Rattle.ch_lines.specs.ReadingState.{ReadingState}
+use Rattle.ch_replay.specs.Running.{Running, unbegun}
+use Rattle.ch_replay.specs.Steps.{run_step}
 
--- what the lines so far have told, how many they are, and the world that they made
+-- what the lines so far have told, how many they are, and how far they have run
 pub record Progress : Type 0 where
   pub told : Told
   pub number : ℕ
-  pub world : Option World
+  pub run : Running
 
 abbrev pub at_start : Progress
-at_start = record { told = untold; number = 0; world = None }
+at_start = record { told = untold; number = 0; run = unbegun }
 
 -- a line that was read: the text of its entries, and the progress after it
 abbrev pub went_on : Progress → Option What → Told → Result (List ℕ × Progress) Stop
 went_on progress None told = Ok ([], record progress { told = told; number = progress.number + 1 })
 went_on progress (Some what) told = do
-  done ← world_step progress.world (record { number = progress.number + 1; what = what })
-  Ok (log_text done.0, record { told = told; number = progress.number + 1; world = done.1 })
+  done ← run_step progress.run (record { number = progress.number + 1; what = what })
+  Ok (log_text done.0, record { told = told; number = progress.number + 1; run = done.1 })
 
 -- the next line, or the kind of its refusal
 abbrev pub one_line : Progress → List ℕ → Result (Result (List ℕ × Progress) BadKind) Stop
-one_line progress text = elim (read_line one_node progress.told text) [
+one_line progress text = elim (read_line many_nodes progress.told text) [
   | Err kind ↦ Ok (Err kind)
   | Ok read ↦ (went_on progress read.0 read.1 >>= λ done. Ok (Ok done))
 ]
@@ -69,17 +70,17 @@ abbrev pub Gives : {X Y : Type 0} → (X → Y) → Result X Stop → Result Y S
 Gives view (Ok x) given = given ≡ Ok (view x)
 Gives view (Err e) given = Stops e given
 
-abbrev pub progress_of : ReadingState → Option World → Progress
-progress_of reading world = record { told = reading.told; number = reading.number; world = world }
+abbrev pub progress_of : ReadingState → Running → Progress
+progress_of reading run = record { told = reading.told; number = reading.number; run = run }
 
 -- What a turn did: a line went on, with its text appended; or was refused, and nothing was; or a count is worn.
-abbrev pub IsTurn : Result (Option BadKind) Stop → ReadingState → ReadingState → Option World → Option World → List ℕ → List ℕ → List ℕ → Type 0
-IsTurn (Ok None) before now world after line old new =
-    (now.grammar ≡ OneNode) × (now.refused ≡ None) × (now.number ≡ before.number + 1) × (more : List ℕ)
-    × (one_line (progress_of before world) line ≡ Ok (Ok (more, progress_of now after))) × (new ≡ old ++ more)
-IsTurn (Ok (Some kind)) before now world after line old new = (one_line (progress_of before world) line ≡ Ok (Err kind)) × (new ≡ old)
-IsTurn (Err stops.OutOfMemory) before now world after line old new = Unit {0}
-IsTurn (Err stops.Worn) before now world after line old new = one_line (progress_of before world) line ≡ Err stops.Worn
+abbrev pub IsTurn : Result (Option BadKind) Stop → ReadingState → ReadingState → Running → Running → List ℕ → List ℕ → List ℕ → Type 0
+IsTurn (Ok None) before now run after line old new =
+    (now.grammar ≡ ManyNodes) × (now.refused ≡ None) × (now.number ≡ before.number + 1) × (more : List ℕ)
+    × (one_line (progress_of before run) line ≡ Ok (Ok (more, progress_of now after))) × (new ≡ old ++ more)
+IsTurn (Ok (Some kind)) before now run after line old new = (one_line (progress_of before run) line ≡ Ok (Err kind)) × (new ≡ old)
+IsTurn (Err stops.OutOfMemory) before now run after line old new = Unit {0}
+IsTurn (Err stops.Worn) before now run after line old new = one_line (progress_of before run) line ≡ Err stops.Worn
 
 -- a text before all that follows
 abbrev pub onto : List ℕ → Result (List ℕ × Option (ℕ × LineFault)) Stop → Result (List ℕ × Option (ℕ × LineFault)) Stop

@@ -1,5 +1,5 @@
 -- The words that the program is started with.
-use Rattle.std.specs.Prelude.{Bool, true, false, List, [], ◌∷◌, codes, string_bytes}
+use Rattle.std.specs.Prelude.{Bool, false, List, [], ◌∷◌, codes, string_bytes}
 use Rattle.std.specs.Str.{bytes_eq}
 use Rattle.std.specs.declared.string.String.{String}
 

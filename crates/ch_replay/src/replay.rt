@@ -3,12 +3,13 @@
 ghost use Rattle.std.specs.Prelude.{◌≡◌, ℕ, ◌+◌, ◌≤◌, ◌<◌, ◌++◌, ◌∷◌, [], length, OnOk, Ok, Some, None};
 ghost use Rattle.ch_model.specs.Journal.{raw_lines, size_of};
 ghost use Rattle.ch_model.specs.Spelling.{log_text};
-ghost use Rattle.ch_lines.specs.declared.grammar.Grammar.TheVariants.{OneNode};
+ghost use Rattle.ch_lines.specs.declared.grammar.Grammar.TheVariants.{ManyNodes};
 ghost use Rattle.ch_lines.specs.ReadingState.{unread};
 ghost use Rattle.ch_replay.specs.Replayed.{Gives, replay_of, progress_of, IsTurn};
+ghost use Rattle.ch_replay.specs.Running.{unbegun};
 
 use crate::intake::LONGEST_JOURNAL;
-use crate::world::{World, step};
+use crate::running::Running;
 use ch_base::{OutOfMemory, Stop};
 use ch_journal::{Grammar, JournalError, Reading, put_entry, split_at_byte};
 use ch_model::{BadKind, Entry, LineFault};
@@ -52,19 +53,19 @@ fn put_entries(entries: &[Entry], text: &mut Vec<u8>) -> Result<(), OutOfMemory>
 fn turn(
     alloc: Global,
     reading: &mut Reading,
-    world: &mut Option<World>,
+    run: &mut Running,
     line: &[u8],
     text: &mut Vec<u8>,
 ) -> Result<Option<BadKind>, Stop>
-    requires grammar { reading.old.grammar ≡ OneNode }
+    requires grammar { reading.old.grammar ≡ ManyNodes }
     requires fresh { reading.old.refused ≡ None }
     requires few { reading.old.number < 4294967295 }
-    ensures { IsTurn result reading.old reading.new world.old world.new line.now text.old.items text.new.items }
+    ensures { IsTurn result reading.old reading.new run.old run.new line.now text.old.items text.new.items }
 {
     match reading.line(line) {
         Ok(None) => Ok(None),
         Ok(Some(line)) => {
-            let entries = step(alloc, world, line)?;
+            let entries = run.step(alloc, line)?;
             match put_entries(entries.as_slice(), text) {
                 Ok(()) => Ok(None),
                 Err(OutOfMemory) => Err(Stop::OutOfMemory),
@@ -76,17 +77,17 @@ fn turn(
     }
 }
 
-/// The log of a journal's text, read by a new reading and run from no world. Both are lent, so that the walk over
+/// The log of a journal's text, read by a new reading and run from nothing. Both are lent, so that the walk over
 /// the lines drops neither.
 fn log_lines(
     alloc: Global,
     journal: &[u8],
     reading: &mut Reading,
-    world: &mut Option<World>,
+    run: &mut Running,
 ) -> Result<Logged, Stop>
     requires few { length journal.now ≤ 16777217 }
-    requires unread { reading.old ≡ unread OneNode }
-    requires empty { world.old ≡ None }
+    requires unread { reading.old ≡ unread ManyNodes }
+    requires unbegun { run.old ≡ unbegun }
     ensures { Gives (λ l. (l.text.items, l.fault)) result (replay_of journal.now) }
 {
     let mut text = Vec::new(alloc);
@@ -108,7 +109,7 @@ fn log_lines(
                 fault: Some((number, LineFault::TooLong)),
             });
         }
-        match turn(alloc, reading, world, line, &mut text)? {
+        match turn(alloc, reading, run, line, &mut text)? {
             None => {
                 room -= size;
                 rest = after;
@@ -129,7 +130,7 @@ pub(crate) fn log_journal(alloc: Global, journal: &[u8]) -> Result<Logged, Stop>
     requires { length journal.now ≤ 16777217 }
     ensures { Gives (λ l. (l.text.items, l.fault)) result (replay_of journal.now) }
 {
-    let mut reading = Reading::new(alloc, Grammar::OneNode);
-    let mut world = None;
-    log_lines(alloc, journal, &mut reading, &mut world)
+    let mut reading = Reading::new(alloc, Grammar::ManyNodes);
+    let mut run = Running::new(alloc);
+    log_lines(alloc, journal, &mut reading, &mut run)
 }

@@ -34,7 +34,8 @@ fn words(alloc: Global, word: &str) -> Result<Vec<String>, AllocError> {
     Ok(words)
 }
 
-fn replay<S: Source, K: Sink>(
+/// Replays a journal by the word `run`.
+pub(crate) fn replay<S: Source, K: Sink>(
     alloc: Global,
     source: &mut S,
     sink: &mut K,
@@ -43,7 +44,12 @@ fn replay<S: Source, K: Sink>(
     Ok(replay_top(alloc, words.as_slice(), source, sink))
 }
 
-fn source(alloc: Global, journal: &[u8], most: usize) -> Result<BytesSource, AllocError> {
+/// A source of these bytes, which gives so many at most at a time.
+pub(crate) fn source(
+    alloc: Global,
+    journal: &[u8],
+    most: usize,
+) -> Result<BytesSource, AllocError> {
     Ok(BytesSource::new(Vec::from_slice(alloc, journal)?, most))
 }
 

@@ -1,13 +1,14 @@
 use Rattle.std.specs.Prelude.{◌+◌, take}
 use Rattle.ch_model.specs.Journal.{raw_lines, longest_journal}
+use Rattle.ch_model.specs.LinesBuilt.{one_node}
 use Rattle.ch_laws_one_node.proofs.Places.{looked_at, all_numbered, first_fault_place}
 use Rattle.ch_laws_one_node.proofs.ends_in_place.Goals as goal
 
 pub returns-clause-looked_at : goal.returns-clause-looked_at
-returns-clause-looked_at c = λ bytes. looked_at bytes
+returns-clause-looked_at c = λ bytes. looked_at one_node bytes
 
 pub returns-clause-numbered : goal.returns-clause-numbered
-returns-clause-numbered c = λ bytes. all_numbered (raw_lines (take (longest_journal + 1) bytes))
+returns-clause-numbered c = λ bytes. all_numbered one_node (raw_lines (take (longest_journal + 1) bytes))
 
 pub returns-clause-first : goal.returns-clause-first
-returns-clause-first c = λ b bytes number fault is. first_fault_place b bytes number fault is
+returns-clause-first c = λ b bytes number fault is. first_fault_place one_node b bytes number fault is

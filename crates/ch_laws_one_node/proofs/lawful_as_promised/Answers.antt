@@ -12,4 +12,4 @@ pub returns-clause-lines : goal.returns-clause-lines
 returns-clause-lines c = λ least journal log of fits rising is. lawful_of_one_node least journal log of fits rising is
 
 pub returns-clause-bytes : goal.returns-clause-bytes
-returns-clause-bytes c = λ bytes log is. lawful_of_one_node 1 (journal_of one_node bytes) log (of_one_node (raw_lines (take (longest_journal + 1) bytes))) (all_framed (raw_lines (take (longest_journal + 1) bytes))) (without_fault 1 (journal_of one_node bytes) (first_fault one_node bytes) (all_numbered (raw_lines (take (longest_journal + 1) bytes)))) is
+returns-clause-bytes c = λ bytes log is. lawful_of_one_node 1 (journal_of one_node bytes) log (of_one_node (raw_lines (take (longest_journal + 1) bytes))) (all_framed (raw_lines (take (longest_journal + 1) bytes))) (without_fault 1 (journal_of one_node bytes) (first_fault one_node bytes) (all_numbered one_node (raw_lines (take (longest_journal + 1) bytes)))) is

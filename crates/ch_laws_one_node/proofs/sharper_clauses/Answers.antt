@@ -19,5 +19,5 @@ returns-clause-told_last c = λ least journal log of fits rising is. (sharper_of
 
 pub returns-clause-bytes : goal.returns-clause-bytes
 returns-clause-bytes c = λ bytes log is.
-    let further = sharper_of_one_node 1 (journal_of one_node bytes) log (of_one_node (raw_lines (take (longest_journal + 1) bytes))) (all_framed (raw_lines (take (longest_journal + 1) bytes))) (without_fault 1 (journal_of one_node bytes) (first_fault one_node bytes) (all_numbered (raw_lines (take (longest_journal + 1) bytes)))) is in
+    let further = sharper_of_one_node 1 (journal_of one_node bytes) log (of_one_node (raw_lines (take (longest_journal + 1) bytes))) (all_framed (raw_lines (take (longest_journal + 1) bytes))) (without_fault 1 (journal_of one_node bytes) (first_fault one_node bytes) (all_numbered one_node (raw_lines (take (longest_journal + 1) bytes)))) is in
     (further.sharper, further.isolated, further.told_last)

@@ -1,4 +1,4 @@
-use Rattle.std.proofs.Common.{ℕ, ◌≡◌, ◌+◌, ◌≤◌, length, arith}
+use Rattle.std.proofs.Common.{arith}
 use Rattle.std.proofs.lemmas.List.{length-take}
 use Rattle.ch_replay.proofs.Pieces.{intake_end, intake_full}
 use Rattle.ch_replay.proofs.intake.take_journal.Goals as goal

@@ -1,4 +1,4 @@
-use Rattle.std.proofs.Common.{ℕ, List, ◌≡◌, ◌+◌, ◌≤◌, length, arith, subst}
+use Rattle.std.proofs.Common.{ℕ, List, arith, subst}
 use Rattle.ch_base.specs.Outside.{Writes}
 use Rattle.ch_replay.proofs.Pieces.{appended_more}
 use Rattle.ch_replay.proofs.output.write_all.Goals as goal

@@ -1,4 +1,4 @@
-use Rattle.std.proofs.Common.{ℕ, List, ◌≡◌, ◌≤◌, length, arith, subst, ap, sym, ◌∙◌}
+use Rattle.std.proofs.Common.{ℕ, List, length, arith, subst, ap, sym, ◌∙◌}
 use Rattle.ch_base.specs.declared.memory.Stop.{Stop}
 use Rattle.ch_journal.specs.declared.status.Status.{Status}
 use Rattle.ch_replay.specs.Ends.{Ends}

@@ -1,0 +1,5 @@
+pub mod Worlds
+pub mod Order
+pub mod ManyNodes
+pub mod OneOfMany
+pub mod OneAsMany
