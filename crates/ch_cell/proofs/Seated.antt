@@ -14,8 +14,8 @@ use Rattle.std.proofs.Common.{get_or}
 use Rattle.std.proofs.lemmas.Option.{slice_get-get_or}
 use Rattle.std.proofs.lemmas.List.{set-get_or}
 use Rattle.ch_model.specs.declared.command.CommandError.TheVariants as errors
-use Rattle.ch_whole_node.specs.Kept.{Kept as NodeKept}
-use Rattle.ch_whole_node.specs.Calls.{Fails, Leaves}
+use Rattle.ch_node.specs.Kept.{Kept as NodeKept}
+use Rattle.ch_node.specs.Calls.{Fails, Leaves}
 use Rattle.ch_static.specs.declared.command.Command.{Command}
 use Rattle.ch_cell.specs.Seats.{stored, seat_asked, stored_at, asked_of, asked_at, Answers, acts_in, seated, node_at, directed_from, directed_of}
 

@@ -9,8 +9,8 @@ ghost use Rattle.ch_cell.specs.Seats.{seat_asked, node_at, directed_from, direct
 
 use ch_base::{Address, Event, OutOfMemory, Room};
 use ch_model::{Act, CommandError};
+use ch_node::Node;
 use ch_static::{Command, Table};
-use ch_whole_node::Node;
 use std::alloc::Global;
 use std::marker::Model;
 
