@@ -2,7 +2,8 @@
 """Times chreplay: lines and messages a second, peak memory, and the time of each against the smallest journal.
 
     bench/run.py [PROGRAM]                default: crates/chreplay/out/chreplay
-    bench/run.py --journal KIND MESSAGES  prints a journal of many nodes: KIND is pieces, bytes or all
+    bench/run.py --journal KIND COUNT     prints a journal: KIND is lines (of one node, so many), size (of one node,
+                                          at most so many bytes), or pieces, bytes or all (so many messages)
 
 Build the program first, as the README says. Three kinds of journals:
 
@@ -20,6 +21,7 @@ import os
 import random
 import subprocess
 import sys
+import tempfile
 import time
 
 LONGEST = 16_777_216
@@ -88,27 +90,43 @@ def all_to_all(messages):
 
 
 KINDS = {
-    "pieces": lambda messages: two_nodes(messages, 4096),
-    "bytes": lambda messages: two_nodes(messages, 1),
+    "lines": lambda count: one_node(lines=count),
+    "size": lambda count: one_node(size=count),
+    "pieces": lambda count: two_nodes(count, 4096),
+    "bytes": lambda count: two_nodes(count, 1),
     "all": all_to_all,
 }
 
 
-def run(program, data):
+def made(folder, kind, count):
+    """The path of such a journal. A process of its own makes it, so that this one stays small."""
+    path = os.path.join(folder, f"{kind}-{count}.journal")
+    with open(path, "wb") as file:
+        subprocess.run([sys.executable, os.path.abspath(__file__), "--journal", kind, str(count)], stdout=file, check=True)
+    return path
+
+
+def run(program, path):
     """Seconds, and the peak memory in bytes."""
-    start = time.monotonic()
-    child = subprocess.Popen([program, "run"], stdin=subprocess.PIPE, stdout=subprocess.DEVNULL)
-    child.stdin.write(data)
-    child.stdin.close()
-    _, status, usage = os.wait4(child.pid, 0)
+    with open(path, "rb") as journal:
+        start = time.monotonic()
+        child = subprocess.Popen([program, "run"], stdin=journal, stdout=subprocess.DEVNULL)
+        _, status, usage = os.wait4(child.pid, 0)
+        seconds = time.monotonic() - start
     assert os.waitstatus_to_exitcode(status) == 0
-    return time.monotonic() - start, usage.ru_maxrss * 1024
+    return seconds, usage.ru_maxrss * 1024
 
 
-def count_got(program, data):
+def count_lines(path):
+    """How many lines a journal has."""
+    with open(path, "rb") as journal:
+        return sum(1 for _ in journal)
+
+
+def count_got(program, path):
     """How many messages the log tells as got."""
-    log = subprocess.run([program, "run"], input=data, capture_output=True, check=True).stdout
-    return sum(line.startswith(b"got ") for line in log.splitlines())
+    with open(path, "rb") as journal, subprocess.Popen([program, "run"], stdin=journal, stdout=subprocess.PIPE) as child:
+        return sum(line.startswith(b"got ") for line in child.stdout)
 
 
 def table(program, title, unit, rows):
@@ -116,11 +134,13 @@ def table(program, title, unit, rows):
     print(f"\n| {title} | bytes | seconds | {unit}s a second | time a {unit} against the smallest | peak memory | against the journal |")
     print("|---|---|---|---|---|---|---|")
     first = None
-    for count, data in rows:
-        seconds, peak = min(run(program, data) for _ in range(3))
+    for count, path in rows:
+        size = os.path.getsize(path)
+        assert size <= LONGEST
+        seconds, peak = min(run(program, path) for _ in range(3))
         each = seconds / count
         first = first or each
-        print(f"| {count:,} | {len(data):,} | {seconds:.2f} | {count / seconds:,.0f} | {each / first:.2f} | {peak / 2**20:.0f} MiB | {peak / len(data):.1f} |")
+        print(f"| {count:,} | {size:,} | {seconds:.2f} | {count / seconds:,.0f} | {each / first:.2f} | {peak / 2**20:.0f} MiB | {peak / size:.1f} |", flush=True)
 
 
 def main():
@@ -128,17 +148,21 @@ def main():
         sys.stdout.buffer.write(KINDS[sys.argv[2]](int(sys.argv[3])))
         return
     program = sys.argv[1] if len(sys.argv) > 1 else "crates/chreplay/out/chreplay"
-    _, floor = run(program, b"chjournal 1\n")
-    print(f"least that is measured as peak memory: {floor / 2**20:.0f} MiB")
-    journals = [one_node(**wanted) for wanted in ({"lines": 10_000}, {"lines": 100_000}, {"size": LONGEST})]
-    table(program, "lines of one node", "line", [(data.count(b"\n"), data) for data in journals])
-    for kind, title in (("pieces", "messages of two nodes in pieces of 4,096 bytes"),
-                        ("bytes", "messages of two nodes in pieces of one byte"),
-                        ("all", "messages of 20 nodes")):
-        rows = [(messages, KINDS[kind](messages)) for messages in (10_000, 100_000)]
-        for messages, data in rows:
-            assert len(data) <= LONGEST and count_got(program, data) == messages
-        table(program, title, "message", rows)
+    with tempfile.TemporaryDirectory() as folder:
+        least = os.path.join(folder, "least.journal")
+        with open(least, "wb") as file:
+            file.write(b"chjournal 1\n")
+        _, floor = run(program, least)
+        print(f"least that is measured as peak memory: {floor / 2**20:.0f} MiB")
+        journals = [made(folder, kind, count) for kind, count in (("lines", 10_000), ("lines", 100_000), ("size", LONGEST))]
+        table(program, "lines of one node", "line", [(count_lines(path), path) for path in journals])
+        for kind, title in (("pieces", "messages of two nodes in pieces of 4,096 bytes"),
+                            ("bytes", "messages of two nodes in pieces of one byte"),
+                            ("all", "messages of 20 nodes")):
+            rows = [(messages, made(folder, kind, messages)) for messages in (10_000, 100_000)]
+            for messages, path in rows:
+                assert count_got(program, path) == messages
+            table(program, title, "message", rows)
 
 
 if __name__ == "__main__":
