@@ -1,3 +1,4 @@
+pub mod Orderly
 pub mod Cuts
 pub mod Turns
 pub mod LinesRead

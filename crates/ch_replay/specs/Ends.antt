@@ -14,12 +14,15 @@ use Rattle.ch_laws_one_node.specs.OneNode.{IsOfOneNode}
 use Rattle.ch_journal.specs.declared.status.Status.{Status}
 use Rattle.ch_journal.specs.declared.status.Status.TheVariants.{Done, Usage, ReadFault, WriteFault, BadLine, TooLong, OutOfMemory, Worn}
 use Rattle.ch_replay.specs.Outside.{Appended, AppendedSome}
+use Rattle.ch_replay.specs.Promised.{IsOrderly}
 
 -- The text that was appended is that of the log of the journal that these bytes spell, up to the first line that
--- is refused. Where the journal is of one node, that log is lawful, and all holds of it that the whole model promises.
+-- is refused. That log is orderly; and where the journal is of one node, it is lawful, and all holds of it that the whole
+-- model promises.
 pub record IsLogged (bytes : List ℕ) (held0 held1 : Option (List ℕ)) : Type 0 where
   pub log : List Entry
   pub is_log : log_of (journal_of many_nodes bytes) ≡ Ok log
+  pub orderly : IsOrderly (journal_of many_nodes bytes) log
   pub lawful : IsOfOneNode (journal_of many_nodes bytes) → IsLawful (journal_of many_nodes bytes) log
   pub promised : IsOfOneNode (journal_of many_nodes bytes) → IsPromised (journal_of many_nodes bytes) log
   pub appended : Appended (log_text log) held0 held1
@@ -28,6 +31,7 @@ pub record IsLogged (bytes : List ℕ) (held0 held1 : Option (List ℕ)) : Type 
 pub record IsLoggedInPart (bytes : List ℕ) (held0 held1 : Option (List ℕ)) : Type 0 where
   pub log : List Entry
   pub is_log : log_of (journal_of many_nodes bytes) ≡ Ok log
+  pub orderly : IsOrderly (journal_of many_nodes bytes) log
   pub lawful : IsOfOneNode (journal_of many_nodes bytes) → IsLawful (journal_of many_nodes bytes) log
   pub promised : IsOfOneNode (journal_of many_nodes bytes) → IsPromised (journal_of many_nodes bytes) log
   pub appended : AppendedSome (log_text log) held0 held1

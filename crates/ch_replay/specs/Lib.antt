@@ -3,4 +3,5 @@ pub mod Steps
 pub mod Replayed
 pub mod Outside
 pub mod Words
+pub mod Promised
 pub mod Ends

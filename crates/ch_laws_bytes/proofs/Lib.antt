@@ -1,0 +1,15 @@
+pub mod Steps
+pub mod Sockets
+pub mod Stepped
+pub mod Reading
+pub mod Told
+pub mod Event
+pub mod Happen
+pub mod Feeds
+pub mod Opens
+pub mod Lines
+pub mod Items
+pub mod Asked
+pub mod Fronts
+pub mod InOrder
+pub mod Scene

@@ -1,0 +1,2 @@
+pub mod ManyLines
+pub mod InOrder

@@ -1,0 +1,17 @@
+pub mod Dues
+pub mod Ordered
+pub mod Links
+pub mod Calls
+pub mod Items
+pub mod Events
+pub mod Cells
+pub mod CellEnds
+pub mod Runs
+pub mod Worlds
+pub mod Found
+pub mod Written
+pub mod Walks
+pub mod Logs
+pub mod ReadBack
+pub mod Scenes
+pub mod Asked

@@ -1,0 +1,4 @@
+pub mod Dues
+pub mod Orderly
+pub mod Writings
+pub mod Scenes
