@@ -6,9 +6,9 @@
 
 ghost use Rattle.std.specs.Prelude.{◌≡◌, ℕ, List, [], ◌∷◌, ◌++◌, find, is_some, slice_get, false, true, Option, Some, Ok};
 ghost use Rattle.ch_base.specs.declared.address.Address.{Address};
+ghost use Rattle.ch_wire.specs.Spelling.{request_spelling};
 ghost use Rattle.ch_reader.specs.Items.{item_spelling};
 ghost use Rattle.ch_reader.specs.Reading.{reading};
-ghost use Rattle.ch_wire.specs.Spelling.{request_spelling};
 ghost use Rattle.ch_reader.specs.declared.item.Expected.{Expected};
 ghost use Rattle.ch_reader.specs.declared.item.Expected.TheVariants as expected;
 ghost use Rattle.ch_reader.specs.declared.item.Item.{Item};

@@ -71,7 +71,7 @@ own_stands journal log number what x found own = second (not (is_of_line x || is
       second false false c e = absurd cc
 
 -- a line of many nodes has an own entry, where it is one of events
-has_one : (known : List Named) (log : List Entry) (what : What) → is_of_many known what ≡ true → has_own log what ≡ true
+pub has_one : (known : List Named) (log : List Entry) (what : What) → is_of_many known what ≡ true → has_own log what ≡ true
 has_one known log lines.Settle of = absurd cc
 has_one known log (lines.Exit by target text) of = absurd cc
 has_one known log (lines.Kill by target text) of = absurd cc
@@ -114,7 +114,7 @@ block_stands journal log number what answer told after found has own r s h = by_
 -- ---- lines
 
 -- a mark changes nothing of the world
-mark_reached : (journal : List Line) (log : List Entry) (world : World) (number : ℕ) (answer : Verdict) → Reached journal log world → Reached journal (log ++ entries.Line number answer ∷ []) world
+pub mark_reached : (journal : List Line) (log : List Entry) (world : World) (number : ℕ) (answer : Verdict) → Reached journal log world → Reached journal (log ++ entries.Line number answer ∷ []) world
 mark_reached journal log world number answer r = record {
   sure = mark_sure journal log world number answer r.sure;
   housed = r.housed;
@@ -126,7 +126,7 @@ mark_reached journal log world number answer r = record {
 }
 
 -- what a line does is told only where it is done
-line_tells_alone : (journal : List Line) (log : List Entry) (what : What) (world : World) → is_of_many (names_of journal) what ≡ true → Reached journal log world → AnsweredAlone (line_done what world)
+pub line_tells_alone : (journal : List Line) (log : List Entry) (what : What) (world : World) → is_of_many (names_of journal) what ≡ true → Reached journal log world → AnsweredAlone (line_done what world)
 line_tells_alone journal log (lines.Join sock) world of r = on_socket_alone sock can_join joins world (λ socket is can. alone_done (joins socket world) (joins_done journal log world socket r.sure is can))
 line_tells_alone journal log (lines.Feed sock end count) world of r = on_socket_alone sock (can_feed end) (feeds end count) world (λ socket is can. alone_done (feeds end count socket world) (feeds_done journal log world end count socket r.sure is can))
 line_tells_alone journal log (lines.Refuse sock) world of r = absurd cc

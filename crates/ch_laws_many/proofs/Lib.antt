@@ -17,3 +17,6 @@ pub mod Answering
 pub mod InPlace
 pub mod Journals
 pub mod InOrder
+pub mod Fed
+pub mod Dials
+pub mod FeedsAndDials

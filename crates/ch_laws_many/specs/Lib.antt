@@ -1,2 +1,3 @@
 pub mod ManyLines
 pub mod InOrder
+pub mod FeedsAndDials

@@ -7,9 +7,11 @@
 
 ghost use Rattle.std.specs.Prelude.{◌≡◌, ℕ, List, Ok, IsTrue};
 ghost use Rattle.ch_model.specs.declared.entry.Entry.{Entry};
+ghost use Rattle.ch_model.specs.AccountsBytes.{feeds_the_unread, feeds_the_end};
 ghost use Rattle.ch_model.specs.HasAnswers.{has_own_first, has_settled_last, stands_in_place, settles_whole};
 ghost use Rattle.ch_model.specs.Journal.{journal_of};
 ghost use Rattle.ch_model.specs.LinesBuilt.{many_nodes};
+ghost use Rattle.ch_model.specs.Links.{dials_in_order};
 ghost use Rattle.ch_model.specs.Logs.{each, each_between};
 ghost use Rattle.ch_model.specs.World.{names_of, log_of};
 ghost use Rattle.ch_laws_log.specs.Declared.{AreApart};
@@ -55,4 +57,21 @@ pub fn own_entries_alone()
 /// isn't said here which answer a process has that sends, receives or ends.
 pub fn answers_in_order()
     ensures { (bytes : List ℕ) (log : List Entry) → log_of (journal_of many_nodes bytes) ≡ Ok log → AnswersInOrder (journal_of many_nodes bytes) log }
+{}
+
+/// No more is fed to an end than is unread there by the log.
+pub fn fed_was_unread()
+    ensures { (bytes : List ℕ) (log : List Entry) → log_of (journal_of many_nodes bytes) ≡ Ok log → IsTrue (each (feeds_the_unread (journal_of many_nodes bytes)) log) }
+{}
+
+/// The end of input is fed to an end only where nothing is unread, and the other end has ended or this one was cut: each
+/// line that feeds asks for a byte at least.
+pub fn ends_fed_are_true()
+    ensures { (bytes : List ℕ) (log : List Entry) → log_of (journal_of many_nodes bytes) ≡ Ok log → IsTrue (each (feeds_the_end (journal_of many_nodes bytes)) log) }
+{}
+
+/// A dial has as number how many dials of the same opener to the same target stand before it: no stranger knocks there, so
+/// that each socket was dialed.
+pub fn dials_are_in_order()
+    ensures { (bytes : List ℕ) (log : List Entry) → log_of (journal_of many_nodes bytes) ≡ Ok log → IsTrue (each dials_in_order log) }
 {}
