@@ -8,6 +8,7 @@ use Rattle.ch_model.specs.Settle.{Happened}
 use Rattle.ch_model.specs.World.{◌>>=◌, world_new, log_from, log_of}
 use Rattle.ch_model.specs.WorldState.{World}
 use Rattle.ch_laws_links.proofs.Journals.{rises_once_in, falls_from_up_in, leaves_unrisen_in, rests_in}
+use Rattle.ch_laws_many.proofs.FeedsAndDials.{feeds_and_dials}
 use Rattle.ch_laws_many.proofs.InOrder.{in_order}
 use Rattle.ch_laws_many.proofs.Journals.{is_journal}
 use Rattle.ch_laws_writes.proofs.ReadBack.{log_accepting}
@@ -22,6 +23,7 @@ with_world bytes log world is from = record {
   left_unrisen = leaves_unrisen_in (journal_of many_nodes bytes) (journal_of many_nodes bytes) log world from;
   closed_rests = rests_in (journal_of many_nodes bytes) (journal_of many_nodes bytes) log world from;
   after_accepting = log_accepting (journal_of many_nodes bytes) (journal_of many_nodes bytes) log world from;
+  fed_and_dialed = feeds_and_dials (journal_of many_nodes bytes) (is_journal bytes) log is;
 }
 
 pub orderly : (bytes : List ℕ) (log : List Entry) → log_of (journal_of many_nodes bytes) ≡ Ok log → IsOrderly (journal_of many_nodes bytes) log

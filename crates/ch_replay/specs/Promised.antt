@@ -5,10 +5,12 @@ use Rattle.ch_model.specs.declared.line.Line.{Line}
 use Rattle.ch_model.specs.AccountsBytes.{writes_after_accepting}
 use Rattle.ch_model.specs.Links.{rises_once, falls_from_up, leaves_unrisen, rests_closed}
 use Rattle.ch_model.specs.Logs.{each}
+use Rattle.ch_laws_many.specs.FeedsAndDials.{FeedsAndDials}
 use Rattle.ch_laws_many.specs.InOrder.{AnswersInOrder}
 
 -- The lines are answered in order. An end of a socket comes up once, goes down from up, is left only where it never came up,
--- and rests once it is closed. A target's end writes more than an answer only after it accepted.
+-- and rests once it is closed. A target's end writes more than an answer only after it accepted. No more is fed than is unread,
+-- the end of input is true, and dials are numbered as they come.
 pub record IsOrderly (journal : List Line) (log : List Entry) : Type 0 where
   pub answers : AnswersInOrder journal log
   pub up_once : IsTrue (each rises_once log)
@@ -16,3 +18,4 @@ pub record IsOrderly (journal : List Line) (log : List Entry) : Type 0 where
   pub left_unrisen : IsTrue (each leaves_unrisen log)
   pub closed_rests : IsTrue (each rests_closed log)
   pub after_accepting : IsTrue (each writes_after_accepting log)
+  pub fed_and_dialed : FeedsAndDials journal log
