@@ -1,0 +1,5 @@
+pub mod Calm
+pub mod Numbered
+pub mod Cells
+pub mod Told
+pub mod Worlds

@@ -1,0 +1,9 @@
+pub mod Mails
+pub mod PairsBy
+pub mod NodesTold
+pub mod CellLives
+pub mod LogLives
+pub mod ToldLives
+pub mod Beginnings
+pub mod WorldLives
+pub mod Simple
