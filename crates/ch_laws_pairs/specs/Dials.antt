@@ -1,0 +1,7 @@
+-- Names that are not empty.
+use Rattle.std.specs.Prelude.{◌≡◌, List, []}
+use Rattle.ch_model.specs.declared.name.SockName.{SockName}
+
+-- the socket's opener and its target have a name
+abbrev pub IsBetweenNames : SockName → Type 0
+IsBetweenNames name = (name.from ≡ [] → ⊥) × (name.to ≡ [] → ⊥)
