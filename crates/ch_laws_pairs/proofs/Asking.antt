@@ -1,6 +1,5 @@
 -- The parts of what a host does tell who asks on its ends.
 use Rattle.std.proofs.Common.{◌≡◌, ◌≤◌, ℕ, ◌+◌, ◌*◌, Bool, true, false, cond, List, [], ◌∷◌, ◌++◌, map, Ok, Err, refl, sym, ap, ◌∙◌, subst, arith}
-use Rattle.std.proofs.lemmas.Bool.Decides.{nat_tests}
 use Rattle.std.specs.Prelude.{find, Option, Some, None, ◌==◌}
 use Rattle.ch_base.specs.declared.address.Address.{Address}
 use Rattle.ch_wire.specs.declared.frame.Frame.{Frame}

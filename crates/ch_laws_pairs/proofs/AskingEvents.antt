@@ -1,13 +1,11 @@
 -- What a host makes of events tells who asks on its ends.
-use Rattle.std.proofs.Common.{◌≡◌, ℕ, Bool, true, false, cond, List, [], ◌∷◌, ◌++◌, Ok, Err, refl, sym, ap, ◌∙◌, subst}
-use Rattle.std.specs.Option.{option_map}
-use Rattle.std.specs.Prelude.{find, is_some, ◌==◌, Option, Some, None}
+use Rattle.std.proofs.Common.{◌≡◌, ℕ, Bool, true, false, cond, List, [], ◌++◌, refl, ap, ◌∙◌}
+use Rattle.std.specs.Prelude.{find, Option, Some, None}
 use Rattle.ch_base.specs.declared.address.Address.{Address}
 use Rattle.ch_wire.specs.Spelling.{request_spelling}
 use Rattle.ch_link.specs.declared.LinkIn.TheVariants.{Late}
 use Rattle.ch_model.specs.declared.step.SocketEvent.{SocketEvent}
 use Rattle.ch_model.specs.declared.step.SocketEvent.TheVariants as events
-use Rattle.ch_model.specs.declared.step.Step.{Step}
 use Rattle.ch_model.specs.declared.step.Step.TheVariants as steps
 use Rattle.ch_model.specs.Host.{on_socket, joins, accepted, keeps, host_on}
 use Rattle.ch_model.specs.HostCalls.{host_timer_runs}
@@ -16,9 +14,9 @@ use Rattle.ch_model.specs.HostLinks.{hears}
 use Rattle.ch_model.specs.HostState.{Socket, HostState}
 use Rattle.ch_model.specs.HostSteps.{Stepped, still, is_socket, link_with, own_address, with_socket}
 use Rattle.ch_model.specs.HostWrites.{writes}
-use Rattle.ch_model.specs.Stages.{Stage, Pending, Open, Ended, is_pending, is_open}
+use Rattle.ch_model.specs.Stages.{Stage, Open, is_pending, is_open}
 use Rattle.ch_laws_log.proofs.HostTold.{number_found}
-use Rattle.ch_laws_pairs.specs.Askers.{asker_of, asker_at, IsAsking, AllAsk, ComesOdd}
+use Rattle.ch_laws_pairs.specs.Askers.{asker_of, asker_at, AllAsk, ComesOdd}
 use Rattle.ch_laws_pairs.proofs.Asking.{from_asked, at_rest, plain_first}
 use Rattle.ch_laws_pairs.proofs.Asking as asking
 use Rattle.ch_laws_pairs.proofs.AskingLinks.{heard}
@@ -66,4 +64,3 @@ event_asks host (events.Late end peer) of = by_test (host_timer_runs host end pe
   by_test : (b : Bool) → AllAsk host (cond b (hears Late (link_with host end peer) host) (still host))
   by_test true = heard Late (link_with host end peer) host tt
   by_test false = at_rest host
-

@@ -1,5 +1,5 @@
 -- What a host makes of items, and of what its endpoints ask, tells who asks on its ends.
-use Rattle.std.proofs.Common.{◌≡◌, ℕ, ◌+◌, Bool, true, false, cond, ◌&&◌, List, [], ◌∷◌, drop, Ok, Err, refl, ap, ◌∙◌, subst}
+use Rattle.std.proofs.Common.{◌≡◌, ℕ, ◌+◌, Bool, true, false, cond, List, [], ◌∷◌, drop, Ok, Err, refl, ap, ◌∙◌, subst}
 use Rattle.std.specs.Prelude.{find, ◌==◌, Result, Option, Some, None, nat_lt}
 use Rattle.ch_base.specs.declared.address.Address.{Address}
 use Rattle.ch_base.specs.declared.event.Event.{Event}
@@ -25,7 +25,7 @@ use Rattle.ch_model.specs.declared.step.Step.{Step}
 use Rattle.ch_model.specs.declared.step.Step.TheVariants as steps
 use Rattle.ch_model.specs.declared.step.Weight.{Weight}
 use Rattle.ch_model.specs.declared.step.Weight.TheVariants.{Free}
-use Rattle.ch_model.specs.Host.{front_of, is_ready_front, first_ready, takes, handles, some_steps, host_next}
+use Rattle.ch_model.specs.Host.{front_of, first_ready, takes, handles, some_steps, host_next}
 use Rattle.ch_model.specs.HostState.{Endpoint, Link, Socket, HostState}
 use Rattle.ch_model.specs.HostSteps.{Stepped, still, after_steps, ◌then◌, link_with, with_link, with_socket, with_endpoint, is_endpoint, is_socket}
 use Rattle.ch_model.specs.HostWrites.{leaves, answers_and_leaves, puts}
@@ -34,7 +34,7 @@ use Rattle.ch_model.specs.HostItems.{most_arrived, posts, gone_from, is_gone, re
 use Rattle.ch_model.specs.HostCalls.{◌>>=◌, stepped, of_ids, open_endpoint, wants, puts_and_wants, host_connect, carries, found_or, short_enough, has_room, host_send, host_close, shuts_links, closes_endpoint, host_close_endpoint}
 use Rattle.ch_laws_items.proofs.Next.{served}
 use Rattle.ch_laws_log.proofs.HostTold.{number_same, find_stored}
-use Rattle.ch_laws_pairs.specs.Askers.{asker_with, asker_of, asker_at, IsAsking, Asks, AllAsk}
+use Rattle.ch_laws_pairs.specs.Askers.{asker_with, asker_of, IsAsking, Asks, AllAsk}
 use Rattle.ch_laws_pairs.proofs.Asking.{onward, chained, from_asked, Alike, same, at_rest, plain_first, keeps, ends}
 use Rattle.ch_laws_pairs.proofs.AskingLinks.{answered, heard, put}
 

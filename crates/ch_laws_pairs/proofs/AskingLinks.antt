@@ -25,7 +25,7 @@ use Rattle.ch_model.specs.HostState.{Link, HostState}
 use Rattle.ch_model.specs.HostSteps.{Stepped, still, does, ◌then◌, own_address, with_link, with_socket}
 use Rattle.ch_model.specs.HostWrites.{writes, leaves, answers_and_leaves, flushes_to, puts, frame_step, forgotten, leaves_off}
 use Rattle.ch_laws_pairs.specs.Askers.{AllAsk}
-use Rattle.ch_laws_pairs.proofs.Asking.{chained, from_asked, Alike, same, at_rest, plain_first, frames_first, ends, ends_down, dials_next}
+use Rattle.ch_laws_pairs.proofs.Asking.{chained, from_asked, same, at_rest, plain_first, frames_first, ends, ends_down, dials_next}
 
 -- one plain step
 one_plain : (host : HostState) (sock : ℕ) (bytes : List ℕ) → AllAsk host (writes sock bytes host)

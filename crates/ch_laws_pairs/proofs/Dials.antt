@@ -23,7 +23,7 @@ use Rattle.ch_model.specs.WorldState.{Cell, Named, WorldSocket, World}
 use Rattle.ch_laws_log.proofs.Keys.{node_is}
 use Rattle.ch_laws_log.proofs.Stored.{bytes_same, number_same}
 use Rattle.ch_laws_ends.proofs.Lines.{sure_after}
-use Rattle.ch_laws_links.specs.Naming.{IsNaming, IsDialedBy, IsUpFor}
+use Rattle.ch_laws_links.specs.Naming.{IsDialedBy, IsUpFor}
 use Rattle.ch_laws_links.specs.Risings.{IsToldAs}
 use Rattle.ch_laws_links.specs.Standing.{standing_of, standing_at}
 use Rattle.ch_laws_links.proofs.Journals.{stands_in}
@@ -31,7 +31,7 @@ use Rattle.ch_laws_links.proofs.Says.{used}
 use Rattle.ch_laws_links.proofs.Worlds.{naming_in}
 use Rattle.ch_laws_many.specs.ManyLines.{AreNamedApart}
 use Rattle.ch_laws_pairs.specs.Dials.{IsBetweenNames}
-use Rattle.ch_laws_pairs.specs.Users.{asker_in, askers_of, AsksAs, OpenerAsks, IsUsedAs}
+use Rattle.ch_laws_pairs.specs.Users.{asker_in, askers_of, AsksAs, OpenerAsks}
 use Rattle.ch_laws_pairs.proofs.Hosts.{names_are, one_place}
 use Rattle.ch_laws_pairs.proofs.Lines.{own_of, asked_after}
 use Rattle.ch_laws_pairs.proofs.LinkedOpeners.{opener_found}

@@ -1,10 +1,9 @@
 -- What a cell hears, and what happens to sockets, leaves the users of the openers' ends called as they were.
-use Rattle.std.proofs.Common.{◌≡◌, ℕ, ◌+◌, ◌*◌, Bool, true, false, cond, ◌||◌, List, [], ◌∷◌, ◌++◌, length, take, drop, Ok, Err, refl, sym, ap, ◌∙◌, subst}
-use Rattle.std.specs.Prelude.{find, slice_get, slice_set, Option, Some, None, ◌==◌}
+use Rattle.std.proofs.Common.{◌≡◌, ℕ, ◌+◌, ◌*◌, Bool, true, false, cond, List, [], ◌∷◌, length, take, drop, Ok, Err, refl, sym, ap, ◌∙◌, subst}
+use Rattle.std.specs.Prelude.{slice_get, slice_set, Option, Some, None, ◌==◌}
 use Rattle.ch_base.specs.declared.address.Address.{Address}
 use Rattle.ch_model.specs.declared.entry.Entry.{Entry}
 use Rattle.ch_model.specs.declared.entry.Entry.TheVariants as entries
-use Rattle.ch_model.specs.declared.entry.Verdict.{Verdict}
 use Rattle.ch_model.specs.declared.entry.Verdict.TheVariants as verdicts
 use Rattle.ch_model.specs.declared.local.LocalEntry.{LocalEntry}
 use Rattle.ch_model.specs.declared.local.LocalEvent.{LocalEvent}
@@ -17,7 +16,6 @@ use Rattle.ch_model.specs.declared.step.SocketEvent.TheVariants as sockets
 use Rattle.ch_model.specs.Cell.{Celled, cell_step}
 use Rattle.ch_model.specs.HostSteps.{own_address}
 use Rattle.ch_model.specs.Naming.{Names, address_as, named_as}
-use Rattle.ch_model.specs.Stages.{is_ended}
 use Rattle.ch_model.specs.WorldHappenings.{Answered, after_entry, with_cell, cell_told, cell_hears, end_hears, mark_of, joins, refuses, comes_at, comes, hands, feeds, loses, times_out}
 use Rattle.ch_model.specs.WorldLines.{node_hears, cuts, knocks, pokes, quits}
 use Rattle.ch_model.specs.WorldSockets.{end_of, opened, ended, cut, arrives, with_end_of, cell_of}
@@ -25,7 +23,7 @@ use Rattle.ch_model.specs.WorldState.{Cell, WorldEnd, WorldSocket, World}
 use Rattle.ch_model.specs.WorldSteps.{all_told}
 use Rattle.ch_laws_log.specs.HostEnds.{steps_in}
 use Rattle.ch_laws_log.proofs.Kept.{stranger_socket}
-use Rattle.ch_laws_log.proofs.Stored.{number_is, number_same}
+use Rattle.ch_laws_log.proofs.Stored.{number_is}
 use Rattle.ch_laws_ends.proofs.Changes.{getting, cells_stay, told_cells}
 use Rattle.ch_laws_ends.proofs.Places.{set_split}
 use Rattle.ch_laws_bytes.proofs.Event.{set_at}

@@ -1,7 +1,7 @@
 -- No two hosts of a world have one text and port, and its names are those of its journal.
 use Rattle.std.proofs.Common.{◌≡◌, ℕ, zero, suc, Bool, true, false, cond, ◌&&◌, ◌||◌, List, [], ◌∷◌, map, Ok, refl, sym, ap, ◌∙◌, subst}
 use Rattle.std.specs.List.{list_any}
-use Rattle.std.specs.Prelude.{filter, slice_get, Option, Some, ◌==◌}
+use Rattle.std.specs.Prelude.{filter, slice_get, Some, ◌==◌}
 use Rattle.std.specs.Str.{bytes_eq}
 use Rattle.ch_base.specs.declared.address.Address.{Address}
 use Rattle.ch_model.specs.declared.entry.Entry.{Entry}
@@ -73,7 +73,7 @@ at_address journal [] place home e = absurd cc
 at_address journal (address ∷ rest) zero home e =
     let is : home_of (cell_at journal address) ≡ home = cc in
     let new = new_home address.host address.port (map (λ (named : Named). named.address.host) (nodes_of journal))
-        (map (λ (named : Named). (named.address.id, named.unique, labels_of journal named.name)) (filter (λ (named : Named). same_host named.address address) (nodes_of journal))) in
+    (map (λ (named : Named). (named.address.id, named.unique, labels_of journal named.name)) (filter (λ (named : Named). same_host named.address address) (nodes_of journal))) in
     (address, refl, sym (ap (λ (h : Home). h.0) is) ∙ new.0, sym (ap (λ (h : Home). h.1) is) ∙ new.1)
 at_address journal (address ∷ rest) (suc place) home e = at_address journal rest place home e
 

@@ -1,11 +1,10 @@
 -- The users of the openers' ends stay called as they were after any lines, settling included.
-use Rattle.std.proofs.Common.{◌≡◌, ℕ, zero, suc, Bool, true, false, cond, List, [], ◌∷◌, ◌++◌, length, map, Ok, Err, refl, sym, ap, ◌∙◌, subst}
+use Rattle.std.proofs.Common.{◌≡◌, ℕ, zero, suc, Bool, true, false, cond, List, [], ◌∷◌, ◌++◌, length, map, Ok, Err, refl, sym, ap, subst}
 use Rattle.std.specs.List.{list_any}
 use Rattle.std.specs.Prelude.{find, filter, is_some, slice_get, Option, Some, None}
 use Rattle.ch_base.specs.declared.address.Address.{Address}
 use Rattle.ch_static.specs.declared.command.Command.{Command}
 use Rattle.ch_model.specs.declared.entry.Entry.{Entry}
-use Rattle.ch_model.specs.declared.entry.Entry.TheVariants as entries
 use Rattle.ch_model.specs.declared.entry.Verdict.TheVariants as verdicts
 use Rattle.ch_model.specs.declared.line.Line.{Line}
 use Rattle.ch_model.specs.declared.line.What.{What}
@@ -26,11 +25,11 @@ use Rattle.ch_model.specs.Stages.{Stage, Pending, Open, Ended}
 use Rattle.ch_model.specs.Timers.{timer_runs_for, all_links}
 use Rattle.ch_model.specs.World.{◌>>=◌, cell_at, world_new, event_step, world_step, line_answered, line_settled, log_from, first_of_hosts, nodes_of, labels_of, same_host}
 use Rattle.ch_model.specs.WorldHappenings.{Answered, joins, refuses, comes, feeds, loses, times_out}
-use Rattle.ch_model.specs.WorldLines.{command_as, node_hears, on_socket, can_join, can_come, can_refuse, can_feed, can_cut, is_at_work, cuts, is_strangers, knocks, pokes, quits, other_line, line_done}
+use Rattle.ch_model.specs.WorldLines.{command_as, node_hears, on_socket, can_join, can_come, can_refuse, can_feed, can_cut, is_at_work, cuts, is_strangers, pokes, quits, other_line, line_done}
 use Rattle.ch_model.specs.WorldSockets.{end_of, is_socket_named}
 use Rattle.ch_model.specs.WorldState.{Cell, Named, WorldSocket, World}
 use Rattle.ch_laws_pairs.specs.Askers.{IsAsking}
-use Rattle.ch_laws_pairs.proofs.Heard.{IsHome, Asked, Led, node_asked, joins_asked, refuses_asked, comes_asked, feeds_asked, loses_asked, times_asked, cuts_asked, quits_asked, pokes_asked, knocks_asked}
+use Rattle.ch_laws_pairs.proofs.Heard.{Asked, Led, node_asked, joins_asked, refuses_asked, comes_asked, feeds_asked, loses_asked, times_asked, cuts_asked, quits_asked, pokes_asked, knocks_asked}
 
 -- what happened leaves it so, where no count stood at its last value
 abbrev LedOn : (ℕ → ℕ → Address) → Happened → Type 0

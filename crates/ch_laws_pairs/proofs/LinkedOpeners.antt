@@ -1,7 +1,7 @@
 -- What a link that dials, or is up on an opener's end, is called.
-use Rattle.std.proofs.Common.{◌≡◌, ℕ, ◌+◌, ◌*◌, Bool, true, false, ◌&&◌, List, Ok, refl, sym, ap, ◌∙◌, subst}
+use Rattle.std.proofs.Common.{◌≡◌, ℕ, Bool, true, List, Ok, refl, sym, ap, ◌∙◌, subst}
 use Rattle.std.proofs.lemmas.Bool.{and_parts}
-use Rattle.std.specs.Prelude.{find, is_some, slice_get, Option, Some, None, ◌==◌}
+use Rattle.std.specs.Prelude.{find, is_some, slice_get, Option, Some, None}
 use Rattle.ch_base.specs.declared.address.Address.{Address}
 use Rattle.ch_link.specs.declared.LinkState.TheVariants.{Dialing, Up}
 use Rattle.ch_model.specs.declared.entry.Entry.{Entry}
@@ -18,7 +18,7 @@ use Rattle.ch_model.specs.WorldState.{Cell, WorldEnd, World}
 use Rattle.ch_laws_log.proofs.Stored.{number_is, found_end}
 use Rattle.ch_laws_log.proofs.WorldEnds.{found_is}
 use Rattle.ch_laws_ends.proofs.Lines.{sure_after}
-use Rattle.ch_laws_links.specs.Naming.{IsNaming, IsDialedBy}
+use Rattle.ch_laws_links.specs.Naming.{IsDialedBy}
 use Rattle.ch_laws_links.proofs.Journals.{numbers_in}
 use Rattle.ch_laws_links.proofs.Says.{dialing, risen}
 use Rattle.ch_laws_links.proofs.Worlds.{naming_in}

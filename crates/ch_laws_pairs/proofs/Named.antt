@@ -1,5 +1,5 @@
 -- The users of the openers' ends stay called as they were, whatever a cell tells and whatever changes an end.
-use Rattle.std.proofs.Common.{◌≡◌, ℕ, Bool, true, false, cond, ◌&&◌, List, [], ◌∷◌, refl, sym, ap, ◌∙◌, subst}
+use Rattle.std.proofs.Common.{◌≡◌, ℕ, Bool, true, false, cond, List, [], ◌∷◌, refl, sym, ap, ◌∙◌, subst}
 use Rattle.std.specs.Prelude.{find, Option, Some, None, ◌==◌}
 use Rattle.ch_base.specs.declared.address.Address.{Address}
 use Rattle.ch_model.specs.declared.local.LocalEntry.{LocalEntry}
@@ -100,9 +100,11 @@ step_named own known askers place cell step world is own_is fresh all = step_as 
       still (steps.Post end event) fresh = all_as own known askers (moved place (steps.Post end event) askers) world.sockets (λ p n. either (place == p) (askers p n)) all
 
       dial : (step : Step) → ((n : ℕ) → IsFresh n step (askers place n)) → OnDial (λ w. AllNamed own known (moved place step askers) w.sockets) place cell step world
-      dial (steps.Dial sock end peer) fresh = stored_named own known (moved place (steps.Dial sock end peer) askers) (new_socket world (called world.names (own_address cell.host end)) (called world.names peer) cell.host.host (end_of_nobody (Some place) (Some sock) Pending) peer) world.sockets
-          ((subst (λ (asker : Asker). AsksAs (own place) known (new_socket world (called world.names (own_address cell.host end)) (called world.names peer) cell.host.host (end_of_nobody (Some place) (Some sock) Pending) peer).name asker) (sym (here (Some (end, peer)) (askers place sock)))
-          (ap (λ (k : Names). called k (own place end)) (sym is) ∙ ap (called world.names) (sym (own_is end)), ap (λ (k : Names). called k peer) (sym is))), target_odd (cell_of world peer))
+      dial (steps.Dial sock end peer) fresh = stored_named own known (moved place (steps.Dial sock end peer) askers) (new_socket world (called world.names (own_address cell.host end)) (called world.names peer) cell.host.host (end_of_nobody (Some place) (Some sock) Pending) peer) world.sockets (
+        (subst (λ (asker : Asker). AsksAs (own place) known (new_socket world (called world.names (own_address cell.host end)) (called world.names peer) cell.host.host (end_of_nobody (Some place) (Some sock) Pending) peer).name asker) (sym (here (Some (end, peer)) (askers place sock)))
+            (ap (λ (k : Names). called k (own place end)) (sym is) ∙ ap (called world.names) (sym (own_is end)), ap (λ (k : Names). called k peer) (sym is))),
+        target_odd (cell_of world peer),
+      )
           (still (steps.Dial sock end peer) fresh) where
             here : (x y : Asker) → cond (place == place) (cond (sock == sock) x y) y ≡ x
             here x y = ap (λ b. cond b (cond (sock == sock) x y) y) (number_same place) ∙ ap (λ b. cond b x y) (number_same sock)

@@ -1,5 +1,5 @@
 -- The opener's end of each socket has its user.
-use Rattle.std.proofs.Common.{◌≡◌, ℕ, List, Ok, refl, sym, ap, ◌∙◌, subst}
+use Rattle.std.proofs.Common.{◌≡◌, ℕ, List, Ok, refl, ap, ◌∙◌, subst}
 use Rattle.std.specs.Prelude.{find, slice_get, Option, Some, None}
 use Rattle.ch_base.specs.declared.address.Address.{Address}
 use Rattle.ch_model.specs.declared.entry.Entry.{Entry}
@@ -12,9 +12,8 @@ use Rattle.ch_model.specs.World.{world_new, log_from}
 use Rattle.ch_model.specs.WorldSockets.{is_socket_named}
 use Rattle.ch_model.specs.WorldState.{Cell, WorldSocket, World}
 use Rattle.ch_laws_log.proofs.Stored.{find_name}
-use Rattle.ch_laws_pairs.specs.Askers.{Asker, asker_with, asker_of, asker_at}
+use Rattle.ch_laws_pairs.specs.Askers.{Asker, asker_with, asker_of}
 use Rattle.ch_laws_pairs.specs.Users.{asker_in, askers_of, AsksAs, OpenerAsks, IsUsedAs}
-use Rattle.ch_laws_pairs.proofs.Heard.{Asked}
 use Rattle.ch_laws_pairs.proofs.Lines.{own_of, asked_after}
 
 -- where somebody asks, the host has a record of whom
@@ -31,6 +30,6 @@ pub opener_used : (journal lines : List Line) (log : List Entry) (world : World)
 opener_used journal lines log world s socket place n cell is found c m at =
     let all = asked_after journal lines log world is in
     let one : OpenerAsks (own_of journal) world.names (askers_of world.cells) s (Some place) (Some n) = subst (λ (k : Option ℕ). OpenerAsks (own_of journal) world.names (askers_of world.cells) s k (Some n)) c
-        (subst (λ (k : Option ℕ). OpenerAsks (own_of journal) world.names (askers_of world.cells) s socket.o.cell k) m
-        (subst (λ (name : SockName). OpenerAsks (own_of journal) world.names (askers_of world.cells) name socket.o.cell socket.o.number) (find_name s world.sockets socket found) (all.named s socket found).0)) in
+    (subst (λ (k : Option ℕ). OpenerAsks (own_of journal) world.names (askers_of world.cells) s socket.o.cell k) m
+    (subst (λ (name : SockName). OpenerAsks (own_of journal) world.names (askers_of world.cells) name socket.o.cell socket.o.number) (find_name s world.sockets socket found) (all.named s socket found).0)) in
     used_by (own_address cell.0.host) (own_of journal place) world.names s (find (is_socket n) cell.0.host.sockets) ((all.homes place cell at).own_is) (subst (λ (asker : Asker). AsksAs (own_of journal place) world.names s asker) (ap (λ (o : Option (Cell × ℕ)). asker_in o n) at) one)

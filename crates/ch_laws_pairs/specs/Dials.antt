@@ -1,5 +1,5 @@
--- Names that are not empty.
-use Rattle.std.specs.Prelude.{◌≡◌, List, []}
+-- The names of a socket, where neither is empty.
+use Rattle.std.specs.Prelude.{◌≡◌, []}
 use Rattle.ch_model.specs.declared.name.SockName.{SockName}
 
 -- the socket's opener and its target have a name

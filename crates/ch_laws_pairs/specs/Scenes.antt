@@ -1,5 +1,5 @@
 -- Who asks at the openers' ends of a world, as a list.
-use Rattle.std.specs.Prelude.{ℕ, List, [], map, Option, Some, None, Result, Ok, Err}
+use Rattle.std.specs.Prelude.{ℕ, List, [], map, Some, None, Result, Ok, Err}
 use Rattle.ch_base.specs.declared.memory.Stop.{Stop}
 use Rattle.ch_model.specs.declared.entry.Entry.{Entry}
 use Rattle.ch_model.specs.WorldState.{WorldEnd, WorldSocket, World}

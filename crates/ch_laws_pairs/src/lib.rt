@@ -1,7 +1,7 @@
-//! The laws of pairs: which two nodes the users of a socket's ends are.
+//! The laws of pairs: of which two nodes a socket's opener has its end, and that of a pair's dials one at most stands.
 //!
-//! No code: laws as clauses of empty functions, over the model below. What hosts and worlds agree on are laws of the crates
-//! below.
+//! No code: laws as clauses of empty functions, over the model below. That hosts and worlds agree on the ends, what links and
+//! sockets say of each other, and what the log tells of them, are laws of the crates below.
 #![tactic(auto)]
 
 ghost use Rattle.std.specs.Prelude.{◌≡◌, ℕ, Bool, List, [], ◌∷◌, find, is_some, slice_get, false, true, Some, Ok};
