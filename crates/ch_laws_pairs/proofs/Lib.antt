@@ -11,3 +11,4 @@ pub mod LinkedOpeners
 pub mod Scene
 pub mod Hosts
 pub mod Dials
+pub mod Many

@@ -13,6 +13,8 @@ ghost use Rattle.ch_model.specs.declared.name.End.TheVariants.{O};
 ghost use Rattle.ch_model.specs.declared.name.SockName.{SockName};
 ghost use Rattle.ch_model.specs.HostState.{Socket};
 ghost use Rattle.ch_model.specs.HostSteps.{is_socket, link_with, own_address};
+ghost use Rattle.ch_model.specs.Journal.{journal_of};
+ghost use Rattle.ch_model.specs.LinesBuilt.{many_nodes};
 ghost use Rattle.ch_model.specs.Links.{is_closed};
 ghost use Rattle.ch_model.specs.World.{names_of, world_new, log_from};
 ghost use Rattle.ch_model.specs.WorldSockets.{is_socket_named, find_end};
@@ -43,8 +45,11 @@ pub fn links_name_openers()
 
 /// Of the sockets of one opener to one target, whose names aren't empty, the log leaves one at most unclosed at its opener's end:
 /// as long as a node dials a peer, or is up with it on a socket that it dialed, all its other dials to it are closed. So it is after
-/// any lines of any journal that declares no name twice, settling included. Nothing is said of strangers' sockets.
+/// any lines of any journal that declares no name twice, settling included; nothing is said of strangers' sockets.
+/// In a journal that the grammar of many nodes reads, of whatever bytes, it is so of all sockets: each is a host's.
 pub fn one_dial_stands()
-    ensures { (journal lines : List Line) (log : List Entry) (world : World) (s t : SockName) (a b : WorldSocket) → log_from (world_new journal) lines ≡ Ok (log, world) → AreNamedApart (names_of journal) → IsBetweenNames s → t.from ≡ s.from → t.to ≡ s.to
+    ensures law { (journal lines : List Line) (log : List Entry) (world : World) (s t : SockName) (a b : WorldSocket) → log_from (world_new journal) lines ≡ Ok (log, world) → AreNamedApart (names_of journal) → IsBetweenNames s → t.from ≡ s.from → t.to ≡ s.to
         → find (is_socket_named s) world.sockets ≡ Some a → find (is_socket_named t) world.sockets ≡ Some b → is_some a.o.cell ≡ true → is_some b.o.cell ≡ true → is_closed log s O ≡ false → is_closed log t O ≡ false → s ≡ t }
+    ensures many { (bytes : List ℕ) (log : List Entry) (world : World) (s t : SockName) (a b : WorldSocket) → log_from (world_new (journal_of many_nodes bytes)) (journal_of many_nodes bytes) ≡ Ok (log, world) → IsBetweenNames s → t.from ≡ s.from → t.to ≡ s.to
+        → find (is_socket_named s) world.sockets ≡ Some a → find (is_socket_named t) world.sockets ≡ Some b → is_closed log s O ≡ false → is_closed log t O ≡ false → s ≡ t }
 {}
