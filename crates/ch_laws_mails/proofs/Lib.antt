@@ -1,0 +1,6 @@
+pub mod Mails
+pub mod NodeRests
+pub mod CellRests
+pub mod ToldRests
+pub mod WorldRests
+pub mod LogRests
