@@ -36,7 +36,7 @@ use Rattle.ch_laws_mails.proofs.NodeRests.{Told, on_make, on_command, on_event, 
 
 -- ---- rolls by endpoint
 
-roll_found : (end : ℕ) (nodes : List (ℕ × NodeState)) (node : ℕ × NodeState) → find (is_at end) nodes ≡ Some node → roll_at end (rolls_of nodes) ≡ Some (roll_of node.1)
+pub roll_found : (end : ℕ) (nodes : List (ℕ × NodeState)) (node : ℕ × NodeState) → find (is_at end) nodes ≡ Some node → roll_at end (rolls_of nodes) ≡ Some (roll_of node.1)
 roll_found end [] node f = absurd cc
 roll_found end (x ∷ xs) node f = by_test (x.0 == end) f (roll_found end xs node) where
   by_test : (b : Bool) → cond b (Some x) (find (is_at end) xs) ≡ Some node → (find (is_at end) xs ≡ Some node → roll_at end (rolls_of xs) ≡ Some (roll_of node.1)) → cond b (Some (roll_of x.1)) (roll_at end (rolls_of xs)) ≡ Some (roll_of node.1)

@@ -4,3 +4,5 @@ pub mod CellRests
 pub mod ToldRests
 pub mod WorldRests
 pub mod LogRests
+pub mod Ends
+pub mod Lines

@@ -13,7 +13,7 @@ use Rattle.ch_model.specs.declared.line.Line.{Line}
 use Rattle.ch_model.specs.declared.line.What.TheVariants as lines
 use Rattle.ch_model.specs.declared.name.ProcName.{ProcName}
 use Rattle.ch_model.specs.Answers.{answer_to_process}
-use Rattle.ch_model.specs.Life.{makes, ends, dooms, is_made, is_over, is_doomed, is_shut}
+use Rattle.ch_model.specs.Life.{makes, ends, dooms, is_made, is_over, is_doomed, is_live}
 use Rattle.ch_laws_log.proofs.Stored.{number_is, number_same}
 use Rattle.ch_laws_many.proofs.Following.{is_shutting}
 use Rattle.ch_laws_many.proofs.Making.{none_shut}
@@ -187,7 +187,7 @@ stops_apart p (x ∷ log) = ap (λ b. stops p x || b) (stops_apart p log) ∙ by
   by_tests false true false = refl
   by_tests false false c = refl
 
--- ---- the answer to a line that ends its process
+-- ---- the answer to a line
 
 -- the answer by whether the process is there, and acts no more
 abbrev pub answer_by : Option Bool → Verdict
@@ -195,20 +195,44 @@ answer_by None = verdicts.Unknown
 answer_by (Some true) = verdicts.Dead
 answer_by (Some false) = verdicts.Ok
 
+-- a process that isn't there, or acts no more, has that answer; of one that acts nothing is said
+abbrev pub RefusedBy : Option Bool → Verdict → Type 0
+RefusedBy None verdict = verdict ≡ verdicts.Unknown
+RefusedBy (Some true) verdict = verdict ≡ verdicts.Dead
+RefusedBy (Some false) verdict = Unit {0}
+
+stand_so : (log : List Entry) (p : ProcName) → AreAllowed [] log → AreOpen log → Stands p (is_made log p) (list_any (stops p) log) (rests_told p.node log)
+stand_so log p a o = all_stand p [] log false false a o (record { found = refl; unmade = λ no. refl })
+
+over_so : (log : List Entry) (p : ProcName) → AreOpen log → is_over log p ≡ list_any (ends p) log
+over_so log p o = ap (λ b. list_any (ends p) log || b) (none_shut p.node log o) ∙ or_false (list_any (ends p) log)
+
+and_true : (b : Bool) → (b && true) ≡ b
+and_true true = refl
+and_true false = refl
+
+gone_so : (log : List Entry) (p : ProcName) → AreOpen log → (is_over log p || is_doomed log p && true) ≡ list_any (stops p) log
+gone_so log p o = ap (λ b. b || is_doomed log p && true) (over_so log p o) ∙ ap (λ b. list_any (ends p) log || b) (and_true (is_doomed log p)) ∙ sym (stops_apart p log)
+
 pub end_answer : (journal : List Line) (log : List Entry) (p : ProcName) → AreAllowed [] log → AreOpen log → answer_to_process journal log p (lines.End p) ≡ answer_by (slice_get (rests_told p.node log) p.counter)
-end_answer journal log p a o = by_tests (is_made log p) (list_any (stops p) log) gone stands.found where
-  stands : Stands p (is_made log p) (list_any (stops p) log) (rests_told p.node log)
-  stands = all_stand p [] log false false a o (record { found = refl; unmade = λ no. refl })
-
-  and_true : (b : Bool) → (b && true) ≡ b
-  and_true true = refl
-  and_true false = refl
-
-  gone : (is_over log p || is_doomed log p && true) ≡ list_any (stops p) log
-  gone = ap (λ b. (list_any (ends p) log || b) || is_doomed log p && true) (none_shut p.node log o) ∙ ap (λ b. b || is_doomed log p && true) (or_false (list_any (ends p) log)) ∙ ap (λ b. list_any (ends p) log || b) (and_true (is_doomed log p)) ∙ sym (stops_apart p log)
-
+end_answer journal log p a o = by_tests (is_made log p) (list_any (stops p) log) (gone_so log p o) (stand_so log p a o).found where
   by_tests : (made stopped : Bool) → (is_over log p || is_doomed log p && true) ≡ stopped → slice_get (rests_told p.node log) p.counter ≡ cond made (Some stopped) None
       → cond (not made) verdicts.Unknown (cond (is_over log p || is_doomed log p && true) verdicts.Dead verdicts.Ok) ≡ answer_by (slice_get (rests_told p.node log) p.counter)
   by_tests false stopped g e = sym (ap answer_by e)
   by_tests true true g e = ap (λ b. cond b verdicts.Dead verdicts.Ok) g ∙ sym (ap answer_by e)
   by_tests true false g e = ap (λ b. cond b verdicts.Dead verdicts.Ok) g ∙ sym (ap answer_by e)
+
+-- a process that isn't live is refused by what the log tells
+pub refused_answer : (log : List Entry) (p : ProcName) (verdict more : Verdict) → AreAllowed [] log → AreOpen log → not (is_live log p) ≡ true → RefusedBy (slice_get (rests_told p.node log) p.counter) verdict
+    → verdict ≡ cond (not (is_made log p)) verdicts.Unknown (cond (is_over log p || is_doomed log p && true) verdicts.Dead more)
+refused_answer log p verdict more a o dead k = by_tests (is_made log p) (list_any (stops p) log) (gone_so log p o) dead (subst (λ (b : Option Bool). RefusedBy b verdict) (stand_so log p a o).found k) where
+  neither : (b c : Bool) → (b || c && true) ≡ false → not (not b && not c) ≡ true → ⊥
+  neither true c e h = absurd cc
+  neither false true e h = absurd cc
+  neither false false e h = absurd cc
+
+  by_tests : (made stopped : Bool) → (is_over log p || is_doomed log p && true) ≡ stopped → not (made && not (is_over log p) && not (is_doomed log p)) ≡ true → RefusedBy (cond made (Some stopped) None) verdict
+      → verdict ≡ cond (not made) verdicts.Unknown (cond (is_over log p || is_doomed log p && true) verdicts.Dead more)
+  by_tests false stopped g h k = k
+  by_tests true true g h k = k ∙ sym (ap (λ b. cond b verdicts.Dead more) g)
+  by_tests true false g h k = absurd (neither (is_over log p) (is_doomed log p) g h)

@@ -1,10 +1,13 @@
 -- What a log tells of which processes of a node act no more, and of which lines the answers are told.
-use Rattle.std.specs.Prelude.{ℕ, Bool, true, false, cond, List, [], ◌∷◌, ◌++◌, map}
+use Rattle.std.specs.Prelude.{ℕ, Bool, true, false, not, cond, List, [], ◌∷◌, ◌++◌, map}
 use Rattle.std.specs.Str.{bytes_eq}
 use Rattle.ch_model.specs.declared.entry.Entry.{Entry}
 use Rattle.ch_model.specs.declared.entry.Entry.TheVariants as entries
+use Rattle.ch_model.specs.declared.line.Line.{Line}
 use Rattle.ch_model.specs.declared.line.What.{What}
 use Rattle.ch_model.specs.declared.line.What.TheVariants as lines
+use Rattle.ch_model.specs.Life.{is_live}
+use Rattle.ch_laws_many.specs.InOrder.{is_answered_where}
 use Rattle.ch_laws_lives.specs.Rolls.{over_at}
 
 -- of each process of a node, by number, whether it acts no more, after one entry more
@@ -24,7 +27,14 @@ rests_after name (entry ∷ rest) rests = rests_after name rest (rests_moved nam
 abbrev pub rests_told : List ℕ → List Entry → List Bool
 rests_told name log = rests_after name log []
 
--- the line ends its process
-abbrev pub is_end : What → Bool
-is_end (lines.End by) = true
-is_end what = false
+-- The answer to the line shows, by the log before, from who acts alone: the line ends its process; or it sends or takes, and
+-- its process wasn't made, or is doomed or over.
+abbrev pub is_of_lives : List Entry → What → Bool
+is_of_lives log (lines.End by) = true
+is_of_lives log (lines.Send by to mark body) = not (is_live log by)
+is_of_lives log (lines.Recv by mark) = not (is_live log by)
+is_of_lives log what = false
+
+-- such a line has its answer
+abbrev pub is_answered_by_lives : List Line → List Entry → Entry → Bool
+is_answered_by_lives journal log entry = is_answered_where (is_of_lives log) journal log entry
