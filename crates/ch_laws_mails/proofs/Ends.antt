@@ -64,10 +64,11 @@ use Rattle.ch_laws_many.proofs.Reached.{IsJournal, AreOpen, named}
 use Rattle.ch_laws_lives.proofs.WorldLives as world_lives
 use Rattle.ch_laws_mails.specs.Rolls.{rests_of, roll_of}
 use Rattle.ch_laws_mails.specs.Cells.{rolls_of, roll_at}
-use Rattle.ch_laws_mails.specs.Logs.{rests_told}
+use Rattle.ch_laws_mails.proofs.ToldRests.{rests_told}
 use Rattle.ch_laws_mails.proofs.CellRests.{roll_found}
 use Rattle.ch_laws_mails.proofs.LogRests.{answer_by, RefusedBy, end_answer, refused_answer}
 use Rattle.ch_laws_mails.proofs.WorldRests.{Alive, IsAt}
+use Rattle.ch_laws_mails.proofs.Uniques.{IsOnce}
 
 -- ---- what a journal reaches
 
@@ -118,16 +119,22 @@ own_is journal place own at i is = let host = placed_at journal place i.0 at i.1
 -- ---- the answer of a node
 
 -- the answer of a cell is such
-abbrev CelledSo : (Verdict → Type 0) → Celled → Type 0
+abbrev pub CelledSo : (Verdict → Type 0) → Celled → Type 0
 CelledSo so (Ok done) = so done.0.0
 CelledSo so (Err stop) = Unit {0}
 
+-- the node is the one of this name, by the log
+pub record IsOf (journal : List Line) (log : List Entry) (name : List ℕ) (node : NodeState) : Type 0 where
+  pub own : node.own ≡ address_as (names_of journal) name
+  pub rests : rests_of node.mail ≡ rests_told name log
+  pub once : IsOnce (names_of journal) node.own node.unique
+
 -- the answer to a command of a process is such, by whether that is there, and acts no more
-abbrev AnswersSo : (Option Bool → Verdict → Type 0) → ℕ → Command → Type 0
-AnswersSo so by command = (end : ℕ) (cell : Cell) (node : NodeState) (room : Room) → CelledSo (so (slice_get (rests_of node.mail) by)) (node_did end cell (node_command node by command room))
+abbrev pub AnswersSo : (NodeState → Type 0) → (Option Bool → Verdict → Type 0) → ℕ → Command → Type 0
+AnswersSo is so by command = (end : ℕ) (cell : Cell) (node : NodeState) (room : Room) → is node → CelledSo (so (slice_get (rests_of node.mail) by)) (node_did end cell (node_command node by command room))
 
 -- what is done where the process acts
-acts_so : (so : Option Bool → Verdict → Type 0) (end : ℕ) (cell : Cell) (node : NodeState) (by : ℕ) (f : Unit {0} → Result (List Act × NodeState) CommandError)
+pub acts_so : (so : Option Bool → Verdict → Type 0) (end : ℕ) (cell : Cell) (node : NodeState) (by : ℕ) (f : Unit {0} → Result (List Act × NodeState) CommandError)
     → so None verdicts.Unknown → so (Some true) verdicts.Dead → ((live : Unit {0}) → CelledSo (so (Some false)) (node_did end cell (f live))) → CelledSo (so (slice_get (rests_of node.mail) by)) (node_did end cell (acting node by >>= f))
 unfolding acting life_of
 acts_so so end cell node by f none rests live = subst (λ (o : Option Bool). CelledSo (so o) (node_did end cell (acting node by >>= f))) (sym (slice_get-map (λ (p : Process). not (is_live p.life)) node.mail by)) (by_get (slice_get node.mail by)) where
@@ -140,9 +147,9 @@ acts_so so end cell node by f none rests live = subst (λ (o : Option Bool). Cel
   by_get None = none
   by_get (Some process) = by_life process.life
 
-node_ends : (by : ℕ) → AnswersSo (λ o verdict. verdict ≡ answer_by o) by commands.End
+node_ends : (is : NodeState → Type 0) (by : ℕ) → AnswersSo is (λ o verdict. verdict ≡ answer_by o) by commands.End
 unfolding node_command finish_of
-node_ends by end cell node room = acts_so (λ o verdict. verdict ≡ answer_by o) end cell node by (λ live. stopping (over node by reasons.Normal)) refl refl (λ live. by_over (over node by reasons.Normal)) where
+node_ends is by end cell node room of = acts_so (λ o verdict. verdict ≡ answer_by o) end cell node by (λ live. stopping (over node by reasons.Normal)) refl refl (λ live. by_over (over node by reasons.Normal)) where
   followed : (done : Followed) → CelledSo (λ verdict. verdict ≡ verdicts.Ok) (answered verdicts.Ok done)
   followed (Ok done) = refl
   followed (Err stop) = tt
@@ -156,13 +163,13 @@ anything : (done : Celled) → CelledSo (RefusedBy (Some false)) done
 anything (Ok done) = tt
 anything (Err stop) = tt
 
-node_sends : (by : ℕ) (to : Target) (said : Message) → AnswersSo RefusedBy by (commands.Send to said)
+pub node_sends : (is : NodeState → Type 0) (by : ℕ) (to : Target) (said : Message) → AnswersSo is RefusedBy by (commands.Send to said)
 unfolding node_command send_of
-node_sends by to said end cell node room = acts_so RefusedBy end cell node by _ refl refl (λ live. anything _)
+node_sends is by to said end cell node room of = acts_so RefusedBy end cell node by _ refl refl (λ live. anything _)
 
-node_takes : (by : ℕ) (mark : List ℕ) → AnswersSo RefusedBy by (commands.Receive mark)
+node_takes : (is : NodeState → Type 0) (by : ℕ) (mark : List ℕ) → AnswersSo is RefusedBy by (commands.Receive mark)
 unfolding node_command receive_of
-node_takes by mark end cell node room = acts_so RefusedBy end cell node by _ refl refl (λ live. anything _)
+node_takes is by mark end cell node room of = acts_so RefusedBy end cell node by _ refl refl (λ live. anything _)
 
 -- ---- the answer to a line
 
@@ -171,7 +178,7 @@ abbrev pub AnsweredSo : (Verdict → Type 0) → Answered → Type 0
 AnsweredSo so (Ok done) = so done.0.0
 AnsweredSo so (Err stop) = Unit {0}
 
-asked_so : (journal : List Line) → IsJournal journal → (log : List Entry) (world : World) (by : ProcName) (command : Command) (so : Option Bool → Verdict → Type 0) → is_declared (names_of journal) by.node ≡ true → Ready journal log world → AnswersSo so by.counter command
+pub asked_so : (journal : List Line) → IsJournal journal → (log : List Entry) (world : World) (by : ProcName) (command : Command) (so : Option Bool → Verdict → Type 0) → is_declared (names_of journal) by.node ≡ true → Ready journal log world → AnswersSo (IsOf journal log by.node) so by.counter command
     → AnsweredSo (so (slice_get (rests_told by.node log) by.counter)) (node_hears by.node (λ end. events.Command end by.counter command) world)
 asked_so journal j log world by command so declared r k = subst (λ (ns : Names). AnsweredSo (so (slice_get (rests_told by.node log) by.counter)) (hears (address_as ns by.node))) (sym r.set.names) (by_named (find (is_named by.node) (names_of journal)) refl declared) where
   hears : Address → Answered
@@ -191,25 +198,30 @@ asked_so journal j log world by command so declared r k = subst (λ (ns : Names)
     by_one true e more = let this : n ≡ d = cc in subst (λ (m : Named). is_some (cell_of world m.address) ≡ true) this h.0
     by_one false e more = more e
 
-  by_node : (at : Address) (place : ℕ) (cell : Cell × ℕ) → called (names_of journal) at ≡ by.node → cell_of (world_new journal) at ≡ Some place → slice_get world.cells place ≡ Some cell
+  by_node : (at : Address) (place : ℕ) (cell : Cell × ℕ) → at ≡ address_as (names_of journal) by.node → called (names_of journal) at ≡ by.node → cell_of (world_new journal) at ≡ Some place → slice_get world.cells place ≡ Some cell
       → (o : Option (ℕ × NodeState)) → find (is_at at.id) cell.0.nodes ≡ o → option_map (λ (n : ℕ × NodeState). n.1.is_shut) o ≡ Some false
       → AnsweredSo (so (slice_get (rests_told by.node log) by.counter)) (cell_told place cell world (elim o as (λ o. Celled) [
         | None ↦ refused verdicts.Nothing cell.0
         | Some node ↦ commanded at.id by.counter command cell.0 node.1
       ]))
-  by_node at place cell name home is None f there = absurd cc
-  by_node at place cell name home is (Some node) f there = told_so place cell (slice_get (rests_of node.1.mail) by.counter) (commanded at.id by.counter command cell.0 node.1)
-      (ap (λ (l : List Bool). slice_get l by.counter) (r.rests.agrees place cell is at.id (roll_of node.1) found ∙ ap (λ (n : List ℕ). rests_told n log) (ap (called (names_of journal)) (own_is journal place node.1.own at (r.rests.placed place cell at.id (roll_of node.1) is found) home) ∙ name)))
-      (k at.id cell.0 node.1 (room_for cell.0.host at.id node.1.own (target_node node.1 by.counter command))) where
+  by_node at place cell to name home is None f there = absurd cc
+  by_node at place cell to name home is (Some node) f there = told_so place cell (slice_get (rests_of node.1.mail) by.counter) (commanded at.id by.counter command cell.0 node.1)
+      (ap (λ (l : List Bool). slice_get l by.counter) rests) (k at.id cell.0 node.1 (room_for cell.0.host at.id node.1.own (target_node node.1 by.counter command)) (record { own = own ∙ to; rests = rests; once = r.rests.once place cell at.id (roll_of node.1) is found })) where
         found : roll_at at.id (rolls_of cell.0.nodes) ≡ Some (roll_of node.1)
         found = roll_found at.id cell.0.nodes node f
 
-  by_cell : (at : Address) (place : ℕ) → called (names_of journal) at ≡ by.node → cell_of (world_new journal) at ≡ Some place → AwakeAt world.cells place at.id → (o : Option (Cell × ℕ)) → slice_get world.cells place ≡ o → is_some o ≡ true → AnsweredSo (so (slice_get (rests_told by.node log) by.counter)) (elim o as (λ o. Answered) [
+        own : node.1.own ≡ at
+        own = own_is journal place node.1.own at (r.rests.placed place cell at.id (roll_of node.1) is found) home
+
+        rests : rests_of node.1.mail ≡ rests_told by.node log
+        rests = r.rests.agrees place cell is at.id (roll_of node.1) found ∙ ap (λ (n : List ℕ). rests_told n log) (ap (called (names_of journal)) own ∙ name)
+
+  by_cell : (at : Address) (place : ℕ) → at ≡ address_as (names_of journal) by.node → called (names_of journal) at ≡ by.node → cell_of (world_new journal) at ≡ Some place → AwakeAt world.cells place at.id → (o : Option (Cell × ℕ)) → slice_get world.cells place ≡ o → is_some o ≡ true → AnsweredSo (so (slice_get (rests_told by.node log) by.counter)) (elim o as (λ o. Answered) [
     | None ↦ Ok ((verdicts.Nothing, []), world)
     | Some cell ↦ cell_told place cell world (cell_step cell.0 (events.Command at.id by.counter command))
   ])
-  by_cell at place name home awake None is there = absurd cc
-  by_cell at place name home awake (Some cell) is there = by_node at place cell name home is (find (is_at at.id) cell.0.nodes) refl (awake cell is)
+  by_cell at place to name home awake None is there = absurd cc
+  by_cell at place to name home awake (Some cell) is there = by_node at place cell to name home is (find (is_at at.id) cell.0.nodes) refl (awake cell is)
 
   by_place : (d : Named) → find (is_named by.node) (names_of journal) ≡ Some d → called (names_of journal) d.address ≡ by.node → (o : Option ℕ) → cell_of world d.address ≡ o → is_some o ≡ true → AnsweredSo (so (slice_get (rests_told by.node log) by.counter)) (elim o as (λ o. Answered) [
     | None ↦ Ok ((verdicts.Nothing, []), world)
@@ -217,7 +229,7 @@ asked_so journal j log world by command so declared r k = subst (λ (ns : Names)
   ])
   by_place d found name None is there = absurd cc
   by_place d found name (Some place) is there = let home : cell_of (world_new journal) d.address ≡ Some place = sym (address_stays d.address (world_new journal) world r.homes) ∙ is in
-      by_cell d.address place name home (awake_still world.cells (world_new journal).cells place d.address.id r.seats (fresh_awake journal (named journal j) by.node d place found home))
+      by_cell d.address place (sym (ap (λ (o : Option Named). (or_nobody o).address) found)) name home (awake_still world.cells (world_new journal).cells place d.address.id r.seats (fresh_awake journal (named journal j) by.node d place found home))
       (slice_get world.cells place) refl (some_within world.cells place (placed_within (is_host_of d.address) world.cells place is))
 
   by_named : (o : Option Named) → find (is_named by.node) (names_of journal) ≡ o → is_some o ≡ true → AnsweredSo (so (slice_get (rests_told by.node log) by.counter)) (hears (or_nobody o).address)
@@ -225,21 +237,21 @@ asked_so journal j log world by command so declared r k = subst (λ (ns : Names)
   by_named (Some d) found there = by_place d found (ap (λ (o : Option Named). called (names_of journal) (or_nobody o).address) (sym found) ∙ called_so (names_of journal) by.node j.apart (ap is_some found)) (cell_of world d.address) refl (homed (names_of journal) d r.set.homed found)
 
 pub end_answered : (journal : List Line) → IsJournal journal → (log : List Entry) (world : World) (by : ProcName) → is_declared (names_of journal) by.node ≡ true → Ready journal log world → AnsweredAs journal log (lines.End by) (line_done (lines.End by) world)
-end_answered journal j log world by declared r = by_done (line_done (lines.End by) world) (asked_so journal j log world by commands.End (λ o verdict. verdict ≡ answer_by o) declared r (node_ends by.counter)) where
+end_answered journal j log world by declared r = by_done (line_done (lines.End by) world) (asked_so journal j log world by commands.End (λ o verdict. verdict ≡ answer_by o) declared r (node_ends (IsOf journal log by.node) by.counter)) where
   by_done : (done : Answered) → AnsweredSo (λ verdict. verdict ≡ answer_by (slice_get (rests_told by.node log) by.counter)) done → AnsweredAs journal log (lines.End by) done
   by_done (Ok done) e = e ∙ sym (end_answer journal log by r.lives.allowed r.unshut)
   by_done (Err stop) e = tt
 
 pub send_refused : (journal : List Line) → IsJournal journal → (log : List Entry) (world : World) (by to : ProcName) (mark body : List ℕ) → is_declared (names_of journal) by.node ≡ true → not (is_live_by log by) ≡ true → Ready journal log world
     → AnsweredAs journal log (lines.Send by (names.Process to) mark body) (line_done (lines.Send by (names.Process to) mark body) world)
-send_refused journal j log world by to mark body declared dead r = by_done (line_done (lines.Send by (names.Process to) mark body) world) (asked_so journal j log world by (commands.Send (target_as world.names (names.Process to)) (record { mark = mark; body = body })) RefusedBy declared r (node_sends by.counter (target_as world.names (names.Process to)) (record { mark = mark; body = body }))) where
+send_refused journal j log world by to mark body declared dead r = by_done (line_done (lines.Send by (names.Process to) mark body) world) (asked_so journal j log world by (commands.Send (target_as world.names (names.Process to)) (record { mark = mark; body = body })) RefusedBy declared r (node_sends (IsOf journal log by.node) by.counter (target_as world.names (names.Process to)) (record { mark = mark; body = body }))) where
   by_done : (done : Answered) → AnsweredSo (RefusedBy (slice_get (rests_told by.node log) by.counter)) done → AnsweredAs journal log (lines.Send by (names.Process to) mark body) done
   by_done (Ok done) k = refused_answer log by done.0.0 (answer_to_live journal log by (lines.Send by (names.Process to) mark body)) r.lives.allowed r.unshut dead k
   by_done (Err stop) k = tt
 
 pub take_refused : (journal : List Line) → IsJournal journal → (log : List Entry) (world : World) (by : ProcName) (mark : List ℕ) → is_declared (names_of journal) by.node ≡ true → not (is_live_by log by) ≡ true → Ready journal log world
     → AnsweredAs journal log (lines.Recv by mark) (line_done (lines.Recv by mark) world)
-take_refused journal j log world by mark declared dead r = by_done (line_done (lines.Recv by mark) world) (asked_so journal j log world by (commands.Receive mark) RefusedBy declared r (node_takes by.counter mark)) where
+take_refused journal j log world by mark declared dead r = by_done (line_done (lines.Recv by mark) world) (asked_so journal j log world by (commands.Receive mark) RefusedBy declared r (node_takes (IsOf journal log by.node) by.counter mark)) where
   by_done : (done : Answered) → AnsweredSo (RefusedBy (slice_get (rests_told by.node log) by.counter)) done → AnsweredAs journal log (lines.Recv by mark) done
   by_done (Ok done) k = refused_answer log by done.0.0 (answer_to_live journal log by (lines.Recv by mark)) r.lives.allowed r.unshut dead k
   by_done (Err stop) k = tt

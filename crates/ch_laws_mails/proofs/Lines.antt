@@ -35,7 +35,8 @@ use Rattle.ch_laws_many.proofs.Led.{GoesOn, step_goes}
 use Rattle.ch_laws_many.proofs.Reached.{IsJournal, AreOpen, open_both, named, Test, Passes, MarkPasses, unmarked_parts, as_each}
 use Rattle.ch_laws_lives.proofs.WorldLives as world_lives
 use Rattle.ch_laws_mails.specs.Logs.{is_of_lives, is_answered_by_lives}
-use Rattle.ch_laws_mails.proofs.Ends.{Ready, end_answered, send_refused, take_refused}
+use Rattle.ch_laws_mails.proofs.Ends.{Ready, end_answered, take_refused}
+use Rattle.ch_laws_mails.proofs.Sends.{send_answered}
 use Rattle.ch_laws_mails.proofs.WorldRests.{Alive, LivedOn, fresh_alive, step_lives}
 
 -- ---- what a journal reaches
@@ -47,7 +48,7 @@ fresh_ready journal j apart = record {
   seats = refl;
   unshut = tt;
   lives = world_lives.fresh_alive journal apart;
-  rests = fresh_alive journal apart;
+  rests = fresh_alive journal j.apart apart;
 }
 
 abbrev HappenedOpen : Happened → Type 0
@@ -76,16 +77,16 @@ step_open known number what world of = answered_open number (line_done what worl
 ready_kept : (journal : List Line) → IsJournal journal → (log : List Entry) (world : World) (number : ℕ) (what : What) → is_of_many (names_of journal) what ≡ true → Ready journal log world → LedOn (Ready journal) log (world_step world (record { number = number; what = what }))
 ready_kept journal j log world number what of r = by_done (world_step world (record { number = number; what = what })) refl (step_goes (names_of journal) (named journal j) number what world of r.set) (step_stays (names_of journal) number what world of) (step_open (names_of journal) number what world of)
     (world_lives.step_lives (names_of journal) log number what world of r.lives) (step_lives (names_of journal) (first_of_hosts [] (nodes_of journal)) log number what world of r.rests) where
-  by_done : (done : Happened) → world_step world (record { number = number; what = what }) ≡ done → GoesOn (names_of journal) done → StaysOn world done → HappenedOpen done → world_lives.LivedOn (names_of journal) log done → LivedOn (names_of journal) (first_of_hosts [] (nodes_of journal)) log done → LedOn (Ready journal) log done
-  by_done (Ok done) is g t o l m = record {
-    set = g.1;
-    homes = (grown world done.1 done.0 (world_step world (record { number = number; what = what })) (step_grows world (record { number = number; what = what }) r.set.numbered) is).homes ∙ r.homes;
-    seats = t ∙ r.seats;
-    unshut = open_both log done.0 r.unshut o;
-    lives = l;
-    rests = m;
-  }
-  by_done (Err stop) is g t o l m = tt
+      by_done : (done : Happened) → world_step world (record { number = number; what = what }) ≡ done → GoesOn (names_of journal) done → StaysOn world done → HappenedOpen done → world_lives.LivedOn (names_of journal) log done → LivedOn (names_of journal) (first_of_hosts [] (nodes_of journal)) log done → LedOn (Ready journal) log done
+      by_done (Ok done) is g t o l m = record {
+        set = g.1;
+        homes = (grown world done.1 done.0 (world_step world (record { number = number; what = what })) (step_grows world (record { number = number; what = what }) r.set.numbered) is).homes ∙ r.homes;
+        seats = t ∙ r.seats;
+        unshut = open_both log done.0 r.unshut o;
+        lives = l;
+        rests = m;
+      }
+      by_done (Err stop) is g t o l m = tt
 
 -- ---- each line passes
 
@@ -133,7 +134,7 @@ mark_passes journal log number what found b is (Ok done) so = λ after. ap (λ (
 mark_passes journal log number what found b is (Err stop) so = tt
 
 one_answered : (journal : List Line) → IsJournal journal → (log : List Entry) (what : What) (world : World) → is_of_many (names_of journal) what ≡ true → Ready journal log world → is_of_lives log what ≡ true → AnsweredAs journal log what (line_done what world)
-one_answered journal j log (lines.Send by (targets.Process to) mark body) world of r e = send_refused journal j log world by to mark body (and_parts (is_declared (names_of journal) by.node) (is_declared (names_of journal) to.node) of).0 e r
+one_answered journal j log (lines.Send by (targets.Process to) mark body) world of r e = send_answered journal j log world by to mark body (and_parts (is_declared (names_of journal) by.node) (is_declared (names_of journal) to.node) of).0 r e
 one_answered journal j log (lines.Recv by mark) world of r e = take_refused journal j log world by mark of e r
 one_answered journal j log (lines.End by) world of r e = end_answered journal j log world by of r
 one_answered journal j log what world of r e = absurd cc

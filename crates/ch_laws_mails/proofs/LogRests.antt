@@ -3,7 +3,7 @@ use Rattle.std.proofs.Common.{◌≡◌, ℕ, zero, suc, ◌==◌, Bool, true, f
 use Rattle.std.proofs.lemmas.List.{length-map}
 use Rattle.std.proofs.lemmas.Slice.Eq.{bytes_eq-Decides}
 use Rattle.std.specs.List.{list_any}
-use Rattle.std.specs.Prelude.{slice_get, Option, Some, None}
+use Rattle.std.specs.Prelude.{is_some, slice_get, Option, Some, None}
 use Rattle.std.specs.Str.{bytes_eq}
 use Rattle.ch_model.specs.declared.entry.Entry.{Entry}
 use Rattle.ch_model.specs.declared.entry.Entry.TheVariants as entries
@@ -22,8 +22,7 @@ use Rattle.ch_laws_lives.specs.Rolls.{over_at}
 use Rattle.ch_laws_lives.specs.Logs.{ends_moved, ends_after, ends_told, IsAllowed, AreAllowed}
 use Rattle.ch_laws_lives.proofs.LogLives as log_lives
 use Rattle.ch_laws_lives.proofs.Mails.{last_there}
-use Rattle.ch_laws_mails.specs.Logs.{rests_moved, rests_after, rests_told}
-use Rattle.ch_laws_mails.proofs.ToldRests.{after_both}
+use Rattle.ch_laws_mails.proofs.ToldRests.{rests_moved, rests_after, rests_told, after_both}
 
 -- ---- as many act or rest as were made
 
@@ -236,3 +235,24 @@ refused_answer log p verdict more a o dead k = by_tests (is_made log p) (list_an
   by_tests false stopped g h k = k
   by_tests true true g h k = k ∙ sym (ap (λ b. cond b verdicts.Dead more) g)
   by_tests true false g h k = absurd (neither (is_over log p) (is_doomed log p) g h)
+
+-- who was made is there by what the log tells
+pub there_so : (log : List Entry) (p : ProcName) → AreAllowed [] log → AreOpen log → is_some (slice_get (rests_told p.node log) p.counter) ≡ is_made log p
+there_so log p a o = ap is_some (stand_so log p a o).found ∙ by_made (is_made log p) where
+  by_made : (made : Bool) → is_some (cond made (Some (list_any (stops p) log)) None) ≡ made
+  by_made true = refl
+  by_made false = refl
+
+-- the answer by whether the process is there, and acts no more; and another where it acts
+abbrev pub answer_or : Verdict → Option Bool → Verdict
+answer_or more None = verdicts.Unknown
+answer_or more (Some true) = verdicts.Dead
+answer_or more (Some false) = more
+
+pub or_answer : (log : List Entry) (p : ProcName) (more : Verdict) → AreAllowed [] log → AreOpen log → cond (not (is_made log p)) verdicts.Unknown (cond (is_over log p || is_doomed log p && true) verdicts.Dead more) ≡ answer_or more (slice_get (rests_told p.node log) p.counter)
+or_answer log p more a o = by_tests (is_made log p) (list_any (stops p) log) (gone_so log p o) (stand_so log p a o).found where
+  by_tests : (made stopped : Bool) → (is_over log p || is_doomed log p && true) ≡ stopped → slice_get (rests_told p.node log) p.counter ≡ cond made (Some stopped) None
+      → cond (not made) verdicts.Unknown (cond (is_over log p || is_doomed log p && true) verdicts.Dead more) ≡ answer_or more (slice_get (rests_told p.node log) p.counter)
+  by_tests false stopped g e = sym (ap (answer_or more) e)
+  by_tests true true g e = ap (λ b. cond b verdicts.Dead more) g ∙ sym (ap (answer_or more) e)
+  by_tests true false g e = ap (λ b. cond b verdicts.Dead more) g ∙ sym (ap (answer_or more) e)

@@ -91,17 +91,17 @@ put_keeps all n port said = by_get (slice_get all n) refl where
   by_room old given false e l = tt
 
   by_port : (old : Process) (i : ℕ) (messages : Option (List Message)) → slice_get all n ≡ Some old
-     → Keeps all (there_or mails.NotLive messages >>= (λ messages. Ok (record old { ports = slice_set old.ports i (messages ++ said ∷ []) })) >>= (λ given. cond (nat_lt (waiting_in old) last_u64) (Ok given) (Err mails.Worn)) >>= (λ given. Ok (slice_set all n given)))
+      → Keeps all (there_or mails.NotLive messages >>= (λ messages. Ok (record old { ports = slice_set old.ports i (messages ++ said ∷ []) })) >>= (λ given. cond (nat_lt (waiting_in old) last_u64) (Ok given) (Err mails.Worn)) >>= (λ given. Ok (slice_set all n given)))
   by_port old i None e = tt
   by_port old i (Some messages) e = by_room old (record old { ports = slice_set old.ports i (messages ++ said ∷ []) }) (nat_lt (waiting_in old) last_u64) e refl
 
   by_place : (old : Process) (port : Option ℕ) → slice_get all n ≡ Some old
-     → Keeps all (appended old port said >>= (λ given. cond (nat_lt (waiting_in old) last_u64) (Ok given) (Err mails.Worn)) >>= (λ given. Ok (slice_set all n given)))
+      → Keeps all (appended old port said >>= (λ given. cond (nat_lt (waiting_in old) last_u64) (Ok given) (Err mails.Worn)) >>= (λ given. Ok (slice_set all n given)))
   by_place old None e = by_room old (record old { mailbox = old.mailbox ++ said ∷ [] }) (nat_lt (waiting_in old) last_u64) e refl
   by_place old (Some i) e = by_port old i (slice_get old.ports i) e
 
   by_over : (old : Process) (b : Bool) → slice_get all n ≡ Some old → is_over old.life ≡ b
-     → Keeps all (cond b (Err mails.NotLive) (appended old port said >>= (λ given. cond (nat_lt (waiting_in old) last_u64) (Ok given) (Err mails.Worn))) >>= (λ given. Ok (slice_set all n given)))
+      → Keeps all (cond b (Err mails.NotLive) (appended old port said >>= (λ given. cond (nat_lt (waiting_in old) last_u64) (Ok given) (Err mails.Worn))) >>= (λ given. Ok (slice_set all n given)))
   by_over old true e o = tt
   by_over old false e o = by_place old port e
 
@@ -113,12 +113,12 @@ pub take_keeps : (all : List Process) (n : ℕ) (mark : List ℕ) → KeepsBesid
 unfolding take_of taken_from
 take_keeps all n mark = by_get (slice_get all n) refl where
   by_first : (old : Process) (o : Option (Message × List Message)) → slice_get all n ≡ Some old
-     → KeepsBeside all (there_or mails.Empty o >>= took old >>= set_at all n)
+      → KeepsBeside all (there_or mails.Empty o >>= took old >>= set_at all n)
   by_first old None e = tt
   by_first old (Some taken) e = still all n old (record old { mailbox = taken.1 }) e refl
 
   by_live : (old : Process) (b : Bool) → slice_get all n ≡ Some old → is_live old.life ≡ b
-     → KeepsBeside all (cond b (there_or mails.Empty (first_of_mark mark old.mailbox) >>= took old) (Err mails.NotLive) >>= set_at all n)
+      → KeepsBeside all (cond b (there_or mails.Empty (first_of_mark mark old.mailbox) >>= took old) (Err mails.NotLive) >>= set_at all n)
   by_live old true e l = by_first old (first_of_mark mark old.mailbox) e
   by_live old false e l = tt
 
@@ -130,17 +130,17 @@ pub take_port_keeps : (all : List Process) (n port : ℕ) → KeepsBeside all (t
 unfolding take_port_of taken_from_port
 take_port_keeps all n port = by_get (slice_get all n) refl where
   by_first : (old : Process) (o : Option (Message × List Message)) → slice_get all n ≡ Some old
-     → KeepsBeside all (there_or mails.Empty o >>= took_from old port >>= set_at all n)
+      → KeepsBeside all (there_or mails.Empty o >>= took_from old port >>= set_at all n)
   by_first old None e = tt
   by_first old (Some taken) e = still all n old (record old { ports = slice_set old.ports port taken.1 }) e refl
 
   by_port : (old : Process) (o : Option (List Message)) → slice_get all n ≡ Some old
-     → KeepsBeside all (there_or mails.Empty o >>= (λ messages. there_or mails.Empty (first_of messages) >>= took_from old port) >>= set_at all n)
+      → KeepsBeside all (there_or mails.Empty o >>= (λ messages. there_or mails.Empty (first_of messages) >>= took_from old port) >>= set_at all n)
   by_port old None e = tt
   by_port old (Some messages) e = by_first old (first_of messages) e
 
   by_live : (old : Process) (b : Bool) → slice_get all n ≡ Some old → is_live old.life ≡ b
-     → KeepsBeside all (cond b (there_or mails.Empty (slice_get old.ports port) >>= (λ messages. there_or mails.Empty (first_of messages) >>= took_from old port)) (Err mails.NotLive) >>= set_at all n)
+      → KeepsBeside all (cond b (there_or mails.Empty (slice_get old.ports port) >>= (λ messages. there_or mails.Empty (first_of messages) >>= took_from old port)) (Err mails.NotLive) >>= set_at all n)
   by_live old true e l = by_port old (slice_get old.ports port) e
   by_live old false e l = tt
 
@@ -152,12 +152,12 @@ pub open_keeps : (all : List Process) (n : ℕ) → KeepsBeside all (open_port_o
 unfolding open_port_of opened_by
 open_keeps all n = by_get (slice_get all n) refl where
   by_room : (old : Process) (b : Bool) → slice_get all n ≡ Some old
-     → KeepsBeside all (cond b (with_port old) (Err mails.Worn) >>= set_at all n)
+      → KeepsBeside all (cond b (with_port old) (Err mails.Worn) >>= set_at all n)
   by_room old true e = still all n old (record old { ports = old.ports ++ [] ∷ [] }) e refl
   by_room old false e = tt
 
   by_live : (old : Process) (b : Bool) → slice_get all n ≡ Some old → is_live old.life ≡ b
-     → KeepsBeside all (cond b (cond (nat_lt (length old.ports) last_u32) (with_port old) (Err mails.Worn)) (Err mails.NotLive) >>= set_at all n)
+      → KeepsBeside all (cond b (cond (nat_lt (length old.ports) last_u32) (with_port old) (Err mails.Worn)) (Err mails.NotLive) >>= set_at all n)
   by_live old true e l = by_room old (nat_lt (length old.ports) last_u32) e
   by_live old false e l = tt
 

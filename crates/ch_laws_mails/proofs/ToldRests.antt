@@ -27,7 +27,25 @@ use Rattle.ch_laws_lives.specs.Rolls.{Permits, over_at}
 use Rattle.ch_laws_lives.proofs.ToldLives.{is_lifeless, AreLifeless, SameWorld, end_same}
 use Rattle.ch_laws_mails.specs.Rolls.{Roll, roll_after}
 use Rattle.ch_laws_mails.specs.Cells.{roll_at, store_roll, AllToldBy}
-use Rattle.ch_laws_mails.specs.Logs.{rests_moved, rests_after, rests_told}
+
+-- ---- what a log tells of a node
+
+-- of each process of a node, by number, whether it acts no more, after one entry more
+abbrev pub rests_moved : List ℕ → Entry → List Bool → List Bool
+rests_moved name (entries.Made process spawn label) rests = cond (bytes_eq process.node name) (rests ++ false ∷ []) rests
+rests_moved name (entries.Doom process text) rests = cond (bytes_eq process.node name) (over_at process.counter rests) rests
+rests_moved name (entries.Over process reason) rests = cond (bytes_eq process.node name) (over_at process.counter rests) rests
+rests_moved name (entries.Shut node) rests = cond (bytes_eq node name) (map (λ rest. true) rests) rests
+rests_moved name entry rests = rests
+
+-- after all entries, in order
+abbrev pub rests_after : List ℕ → List Entry → List Bool → List Bool
+rests_after name [] rests = rests
+rests_after name (entry ∷ rest) rests = rests_after name rest (rests_moved name entry rests)
+
+-- of each process of a node that the log made, by number, whether it is doomed or over by the log
+abbrev pub rests_told : List ℕ → List Entry → List Bool
+rests_told name log = rests_after name log []
 
 pub after_both : (name : List ℕ) (xs ys : List Entry) (known : List Bool) → rests_after name (xs ++ ys) known ≡ rests_after name ys (rests_after name xs known)
 after_both name [] ys known = refl
@@ -73,6 +91,12 @@ own_same (notes.Over process reason) roll = refl
 own_same (notes.Shut node) roll = refl
 own_same note roll = refl
 
+seat_same : (note : Note) (roll : Roll) → ◌≡◌ {A = Address × ℕ} ((roll_after note roll).lives.own, (roll_after note roll).lives.unique) (roll.lives.own, roll.lives.unique)
+seat_same (notes.Made process origin) roll = refl
+seat_same (notes.Over process reason) roll = refl
+seat_same (notes.Shut node) roll = refl
+seat_same note roll = refl
+
 -- ---- rolls and the log
 
 abbrev pub Rolls : Type 0
@@ -90,9 +114,13 @@ AreOfNames known rolls = (e f : ℕ) (roll next : Roll) → roll_at e rolls ≡ 
 abbrev pub IsNone : Names → Rolls → List ℕ → Type 0
 IsNone known rolls name = (end : ℕ) (roll : Roll) → roll_at end rolls ≡ Some roll → bytes_eq (called known roll.lives.own) name ≡ false
 
--- the node at each endpoint is at the same address
+-- where a node is, and its unique number
+abbrev pub seat : Roll → Address × ℕ
+seat roll = (roll.lives.own, roll.lives.unique)
+
+-- the node at each endpoint is at the same address, with the same unique number
 abbrev pub AreOwned : Rolls → Rolls → Type 0
-AreOwned before after = (end : ℕ) (roll : Roll) → roll_at end after ≡ Some roll → (old : Roll) × (roll_at end before ≡ Some old) × (old.lives.own ≡ roll.lives.own)
+AreOwned before after = (end : ℕ) (roll : Roll) → roll_at end after ≡ Some roll → (old : Roll) × (roll_at end before ≡ Some old) × (seat old ≡ seat roll)
 
 -- what was told moves the rolls as it tells; of other nodes it tells nothing
 pub record Goes (known : Names) (before after : Rolls) (log told : List Entry) : Type 0 where
@@ -102,12 +130,12 @@ pub record Goes (known : Names) (before after : Rolls) (log told : List Entry) :
 
 names_kept : (known : Names) (before after : Rolls) → AreOwned before after → AreOfNames known before → AreOfNames known after
 names_kept known before after o a e f roll next r n same = let old = o e roll r in let other = o f next n in
-    a e f old.0 other.0 old.1 other.1 (ap (called known) old.2 ∙ same ∙ ap (called known) (sym other.2))
+    a e f old.0 other.0 old.1 other.1 (ap (λ (x : Address × ℕ). called known x.0) old.2 ∙ same ∙ ap (λ (x : Address × ℕ). called known x.0) (sym other.2))
 
 goes_on : (known : Names) (a b c : Rolls) (log one two : List Entry) → Goes known a b log one → Goes known b c (log ++ one) two → Goes known a c log (one ++ two)
 goes_on known a b c log one two g h = record {
   agrees = subst (λ (l : List Entry). Agrees known l c) (append_assoc log one two) h.agrees;
-  others = λ name n. ap (rests_told name) (sym (append_assoc log one two)) ∙ h.others name (λ end roll r. let old = g.owned end roll r in ap (λ (x : Address). bytes_eq (called known x) name) (sym old.2) ∙ n end old.0 old.1) ∙ g.others name n;
+  others = λ name n. ap (rests_told name) (sym (append_assoc log one two)) ∙ h.others name (λ end roll r. let old = g.owned end roll r in ap (λ (x : Address × ℕ). bytes_eq (called known x.0) name) (sym old.2) ∙ n end old.0 old.1) ∙ g.others name n;
   owned = λ end roll r. let one = h.owned end roll r in let two = g.owned end one.0 one.1 in (two.0, two.1, two.2 ∙ one.2);
 }
 
@@ -148,8 +176,8 @@ goes_note known last note rolls end roll log r p a apart = record {
       (λ is. note_moves known last note roll p ∙ ap (rests_moved (called known roll.lives.own) (note_entry known last note)) (a end roll r) ∙ sym (told_one (called known roll.lives.own)) ∙ ap (λ (x : Address). rests_told (called known x) (log ++ note_entry known last note ∷ [])) (sym (own_same note roll)))
       (λ d old. a at one old ∙ sym (note_spares known last note roll (called known one.lives.own) (rests_told (called known one.lives.own) log) p (differs at one d old (bytes_eq (called known roll.lives.own) (called known one.lives.own)) refl)) ∙ sym (told_one (called known one.lives.own)));
   others = λ name n. told_one name ∙ note_spares known last note roll name (rests_told name log) p (n end roll r);
-  owned = λ at one found. stored_is (λ (q : Roll). (old : Roll) × (roll_at at rolls ≡ Some old) × (old.lives.own ≡ q.lives.own)) end (roll_after note roll) rolls at one found
-      (λ is. (roll, ap (λ (n : ℕ). roll_at n rolls) is ∙ r, sym (own_same note roll)))
+  owned = λ at one found. stored_is (λ (q : Roll). (old : Roll) × (roll_at at rolls ≡ Some old) × (seat old ≡ seat q)) end (roll_after note roll) rolls at one found
+      (λ is. (roll, ap (λ (n : ℕ). roll_at n rolls) is ∙ r, sym (seat_same note roll)))
       (λ d old. (one, old, refl));
 } where
   told_one : (name : List ℕ) → rests_told name (log ++ note_entry known last note ∷ []) ≡ rests_moved name (note_entry known last note) (rests_told name log)

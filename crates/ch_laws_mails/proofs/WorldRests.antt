@@ -33,6 +33,7 @@ use Rattle.ch_model.specs.NodeState.{NodeState}
 use Rattle.ch_model.specs.WorldState.{Cell, WorldEnd, WorldSocket, World}
 use Rattle.ch_model.specs.WorldSteps.{all_told}
 use Rattle.ch_laws_log.specs.Lines.{AllLines}
+use Rattle.ch_laws_log.specs.Declared.{AreApart}
 use Rattle.ch_laws_many.specs.ManyLines.{is_of_many, AreNamedApart}
 use Rattle.ch_laws_lives.specs.Cells.{AllReached}
 use Rattle.ch_laws_lives.specs.Cells as lives_cells
@@ -43,7 +44,8 @@ use Rattle.ch_laws_lives.proofs.ToldLives.{AreLifeless, SameWorld, end_same}
 use Rattle.ch_laws_mails.specs.Rolls.{Roll, rests_of, roll_of}
 use Rattle.ch_laws_mails.specs.Cells.{rolls_of, roll_at, CellRestsOn}
 use Rattle.ch_laws_mails.proofs.CellRests.{cell_rests}
-use Rattle.ch_laws_mails.proofs.ToldRests.{Agrees, Goes, lifeless_told, all_go}
+use Rattle.ch_laws_mails.proofs.ToldRests.{seat, Agrees, Goes, lifeless_told, all_go}
+use Rattle.ch_laws_mails.proofs.Uniques.{IsOnce, fresh_once}
 
 -- the address is of the host at this place, and of this endpoint
 abbrev pub IsAt : List Address → ℕ → ℕ → Address → Type 0
@@ -57,6 +59,7 @@ pub record Alive (known : Names) (hosts : List Address) (log : List Entry) (worl
   pub reached : (p : ℕ) (cell : Cell × ℕ) → slice_get world.cells p ≡ Some cell → AllReached cell.0.nodes
   pub apart : (p q : ℕ) (c d : Cell × ℕ) (e f : ℕ) (r s : Roll) → slice_get world.cells p ≡ Some c → slice_get world.cells q ≡ Some d → roll_at e (rolls_of c.0.nodes) ≡ Some r → roll_at f (rolls_of d.0.nodes) ≡ Some s → called known r.lives.own ≡ called known s.lives.own → (p ≡ q) × (e ≡ f)
   pub placed : (p : ℕ) (cell : Cell × ℕ) (end : ℕ) (roll : Roll) → slice_get world.cells p ≡ Some cell → roll_at end (rolls_of cell.0.nodes) ≡ Some roll → IsAt hosts p end roll.lives.own
+  pub once : (p : ℕ) (cell : Cell × ℕ) (end : ℕ) (roll : Roll) → slice_get world.cells p ≡ Some cell → roll_at end (rolls_of cell.0.nodes) ≡ Some roll → IsOnce known roll.lives.own roll.lives.unique
 
 -- the roll at an endpoint is the one of a node there
 rolled : (end : ℕ) (nodes : List (ℕ × NodeState)) (roll : Roll) → roll_at end (rolls_of nodes) ≡ Some roll → (node : NodeState) × (lives_cells.roll_at end (lives_cells.rolls_of nodes) ≡ Some (lives_rolls.roll_of node)) × (roll_of node ≡ roll)
@@ -72,8 +75,8 @@ none_made : (mail : List Process) → ends_of mail ≡ [] → rests_of mail ≡ 
 none_made [] e = refl
 none_made (x ∷ xs) e = absurd cc
 
-pub fresh_alive : (journal : List Line) → AreNamedApart (names_of journal) → Alive (names_of journal) (first_of_hosts [] (nodes_of journal)) [] (world_new journal)
-fresh_alive journal apart = record {
+pub fresh_alive : (journal : List Line) → AreApart (names_of journal) → AreNamedApart (names_of journal) → Alive (names_of journal) (first_of_hosts [] (nodes_of journal)) [] (world_new journal)
+fresh_alive journal places apart = record {
   names = refl;
   agrees = λ p cell at end roll r. let n = rolled end cell.0.nodes roll r in ap (λ (x : Roll). x.rests) (sym n.2) ∙ none_made n.0.mail (fresh_at journal apart p cell end (lives_rolls.roll_of n.0) at n.1).2.made_none;
   reached = fresh_reached_at journal;
@@ -81,6 +84,7 @@ fresh_alive journal apart = record {
       fresh_apart journal apart p q c d e f (lives_rolls.roll_of n.0) (lives_rolls.roll_of m.0) at of n.1 m.1 (ap (λ (x : Roll). called (names_of journal) x.lives.own) n.2 ∙ same ∙ ap (λ (x : Roll). called (names_of journal) x.lives.own) (sym m.2));
   placed = λ p cell end roll at r. let n = rolled end cell.0.nodes roll r in let new = fresh_at journal apart p cell end (lives_rolls.roll_of n.0) at n.1 in
       subst (λ (x : Roll). IsAt (first_of_hosts [] (nodes_of journal)) p end x.lives.own) n.2 (new.0, new.1, new.2.host, new.2.port, new.2.id);
+  once = λ p cell end roll at r. fresh_once journal places p cell end roll at r;
 }
 
 -- ---- one cell in place of another
@@ -112,6 +116,7 @@ alive_like known hosts log told before after n like l a = record {
   reached = λ p cell at. let old = like p cell at in subst (λ (c : Cell). AllReached c.nodes) old.2 (a.reached p old.0 old.1);
   apart = λ p q c d e f r s at of g h. let one = like p c at in let two = like q d of in a.apart p q one.0 two.0 e f r s one.1 two.1 (ap (λ (c : Cell). roll_at e (rolls_of c.nodes)) one.2 ∙ g) (ap (λ (c : Cell). roll_at f (rolls_of c.nodes)) two.2 ∙ h);
   placed = λ p cell end roll at r. let old = like p cell at in a.placed p old.0 end roll old.1 (ap (λ (c : Cell). roll_at end (rolls_of c.nodes)) old.2 ∙ r);
+  once = λ p cell end roll at r. let old = like p cell at in a.once p old.0 end roll old.1 (ap (λ (c : Cell). roll_at end (rolls_of c.nodes)) old.2 ∙ r);
 }
 
 same_like : (before after : World) → SameWorld after before → IsLike after before
@@ -136,8 +141,9 @@ told_lives known hosts log place cell world event a at = by_done (cell_step cell
         (λ is. go.0.agrees)
         (λ ne k end roll r. a.agrees q c k end roll r ∙ sym (go.0.others (called known roll.lives.own) (λ end2 roll2 r2. differs roll2 roll q c end2 end ne k r2 r (bytes_eq (called known roll2.lives.own) (called known roll.lives.own)) refl)));
     reached = λ q c f. set_is (λ (x : Cell × ℕ). AllReached x.0.nodes) world.cells place (done.1, cell.1) q c (back q c f) (λ is. lives.reached) (λ ne k. a.reached q c k);
-    apart = λ p q c d e f r s i j g h same. let one = traced p c e r i g in let two = traced q d f s j h in a.apart p q one.0 two.0 e f one.1 two.1 one.2 two.2 one.3 two.3 (ap (called known) one.4 ∙ same ∙ ap (called known) (sym two.4));
-    placed = λ q c f s i g. let one = traced q c f s i g in subst (IsAt hosts q f) one.4 (a.placed q one.0 f one.1 one.2 one.3);
+    apart = λ p q c d e f r s i j g h same. let one = traced p c e r i g in let two = traced q d f s j h in a.apart p q one.0 two.0 e f one.1 two.1 one.2 two.2 one.3 two.3 (ap (λ (x : Address × ℕ). called known x.0) one.4 ∙ same ∙ ap (λ (x : Address × ℕ). called known x.0) (sym two.4));
+    placed = λ q c f s i g. let one = traced q c f s i g in subst (λ (x : Address × ℕ). IsAt hosts q f x.0) one.4 (a.placed q one.0 f one.1 one.2 one.3);
+    once = λ q c f s i g. let one = traced q c f s i g in subst (λ (x : Address × ℕ). IsOnce known x.0 x.1) one.4 (a.once q one.0 f one.1 one.2 one.3);
   } where
     lives : CellRestsOn cell.0 done.0.1 done.1
     lives = cell_rests cell.0 done.1 event done.0.0 done.0.1 (a.reached place cell at) e
@@ -156,8 +162,8 @@ told_lives known hosts log place cell world event a at = by_done (cell_step cell
     differs one two q c e f ne k r s false h = refl
 
     traced : (q : ℕ) (c : Cell × ℕ) (f : ℕ) (s : Roll) → slice_get (all_told place done.1 done.0.1 (with_cell place (done.1, cell.1) world)).1.cells q ≡ Some c → roll_at f (rolls_of c.0.nodes) ≡ Some s
-        → (old : Cell × ℕ) × (was : Roll) × (slice_get world.cells q ≡ Some old) × (roll_at f (rolls_of old.0.nodes) ≡ Some was) × (was.lives.own ≡ s.lives.own)
-    traced q c f s i = set_is (λ (x : Cell × ℕ). roll_at f (rolls_of x.0.nodes) ≡ Some s → (old : Cell × ℕ) × (was : Roll) × (slice_get world.cells q ≡ Some old) × (roll_at f (rolls_of old.0.nodes) ≡ Some was) × (was.lives.own ≡ s.lives.own)) world.cells place (done.1, cell.1) q c (back q c i)
+        → (old : Cell × ℕ) × (was : Roll) × (slice_get world.cells q ≡ Some old) × (roll_at f (rolls_of old.0.nodes) ≡ Some was) × (seat was ≡ seat s)
+    traced q c f s i = set_is (λ (x : Cell × ℕ). roll_at f (rolls_of x.0.nodes) ≡ Some s → (old : Cell × ℕ) × (was : Roll) × (slice_get world.cells q ≡ Some old) × (roll_at f (rolls_of old.0.nodes) ≡ Some was) × (seat was ≡ seat s)) world.cells place (done.1, cell.1) q c (back q c i)
         (λ is r. let old = go.0.owned f s r in (cell, old.0, ap (slice_get world.cells) is ∙ at, old.1, old.2))
         (λ ne k r. (c, s, k, r, refl))
 

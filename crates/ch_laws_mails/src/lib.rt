@@ -45,8 +45,10 @@ pub fn cells_tell_rests()
 {}
 
 /// In the log of a journal that the grammar of many nodes reads, each line by which a process ends is answered as the log
-/// before it shows: unknown where the process wasn't made, dead where it was doomed or is over, and ok else. So is a line
-/// by which a process sends or takes, where by that log it wasn't made, or was doomed or is over.
+/// before it shows: unknown where the process wasn't made, dead where it was doomed or is over, and ok else. So is each line
+/// by which a process sends to one of its own node: it is answered unknown also where the receiver wasn't made, and long
+/// where the message fits in no frame. So is a line by which a process sends to another node, or takes, where by that log it
+/// wasn't made, or was doomed or is over.
 pub fn lines_of_lives_answer()
     ensures { (bytes : List ℕ) (log : List Entry) → log_of (journal_of many_nodes bytes) ≡ Ok log → IsTrue (each (is_answered_by_lives (journal_of many_nodes bytes)) log) }
 {}
