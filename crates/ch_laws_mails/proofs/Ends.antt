@@ -1,8 +1,7 @@
 -- A line that ends its process, and one that sends or takes for a process that acts no more, is answered as the log before
 -- it shows.
-use Rattle.std.proofs.Common.{◌≡◌, ◌<◌, ℕ, zero, suc, ◌==◌, Bool, true, false, cond, not, ◌&&◌, ◌||◌, length, List, [], ◌∷◌, ◌++◌, map, Ok, Err, refl, sym, ap, ◌∙◌, subst, append_assoc}
+use Rattle.std.proofs.Common.{◌≡◌, ◌<◌, ℕ, zero, suc, ◌==◌, Bool, true, false, cond, not, length, List, [], ◌∷◌, map, Ok, Err, refl, sym, ap, ◌∙◌, subst}
 use Rattle.std.proofs.lemmas.Bool.{and_parts}
-use Rattle.std.proofs.lemmas.List.{append-nil}
 use Rattle.std.proofs.lemmas.List.Quantifiers.{position-Some}
 use Rattle.std.proofs.lemmas.Option.{slice_get-map}
 use Rattle.std.proofs.lemmas.Slice.Eq.{bytes_eq-Decides}
@@ -25,7 +24,6 @@ use Rattle.ch_ident.specs.declared.message.Message.{Message}
 use Rattle.ch_model.specs.declared.act.Act.{Act}
 use Rattle.ch_model.specs.declared.command.CommandError.{CommandError}
 use Rattle.ch_model.specs.declared.entry.Entry.{Entry}
-use Rattle.ch_model.specs.declared.entry.Entry.TheVariants as entries
 use Rattle.ch_model.specs.declared.entry.Verdict.{Verdict}
 use Rattle.ch_model.specs.declared.entry.Verdict.TheVariants as verdicts
 use Rattle.ch_model.specs.declared.line.Line.{Line}
@@ -52,7 +50,7 @@ use Rattle.ch_model.specs.WorldSockets.{is_host_of, cell_of}
 use Rattle.ch_model.specs.WorldState.{Cell, Named, World}
 use Rattle.ch_laws_world.specs.Grows.{homes_of}
 use Rattle.ch_laws_world.proofs.Journals.{address_stays}
-use Rattle.ch_laws_log.specs.Declared.{AreApart, is_declared}
+use Rattle.ch_laws_log.specs.Declared.{is_declared}
 use Rattle.ch_laws_log.proofs.Agreeing.{some_within}
 use Rattle.ch_laws_log.proofs.Homes.{called_so}
 use Rattle.ch_laws_log.proofs.Stored.{number_is}

@@ -37,7 +37,7 @@ use Rattle.ch_laws_lives.proofs.WorldLives as world_lives
 use Rattle.ch_laws_mails.specs.Logs.{is_of_lives, is_answered_by_lives}
 use Rattle.ch_laws_mails.proofs.Ends.{Ready, end_answered, take_refused}
 use Rattle.ch_laws_mails.proofs.Sends.{send_answered}
-use Rattle.ch_laws_mails.proofs.WorldRests.{Alive, LivedOn, fresh_alive, step_lives}
+use Rattle.ch_laws_mails.proofs.WorldRests.{LivedOn, fresh_alive, step_lives}
 
 -- ---- what a journal reaches
 

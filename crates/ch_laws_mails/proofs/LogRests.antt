@@ -20,7 +20,6 @@ use Rattle.ch_laws_many.proofs.Making.{none_shut}
 use Rattle.ch_laws_many.proofs.Reached.{AreOpen}
 use Rattle.ch_laws_lives.specs.Rolls.{over_at}
 use Rattle.ch_laws_lives.specs.Logs.{ends_moved, ends_after, ends_told, IsAllowed, AreAllowed}
-use Rattle.ch_laws_lives.proofs.LogLives as log_lives
 use Rattle.ch_laws_lives.proofs.Mails.{last_there}
 use Rattle.ch_laws_mails.proofs.ToldRests.{rests_moved, rests_after, rests_told, after_both}
 

@@ -1,8 +1,5 @@
 -- Which processes of a mail act no more, after each call of the mail.
 use Rattle.std.proofs.Common.{◌≡◌, ℕ, zero, suc, Bool, true, false, cond, not, List, [], ◌∷◌, ◌++◌, map, length, Ok, Err, refl, sym, ap, ◌∙◌}
-use Rattle.std.proofs.lemmas.List.{length-map}
-use Rattle.std.proofs.lemmas.Option.{slice_get-map}
-use Rattle.std.specs.Option.{option_map}
 use Rattle.std.specs.Prelude.{Result, Option, Some, None, nat_lt, slice_get, slice_set}
 use Rattle.ch_base.specs.declared.memory.Stop.{Stop}
 use Rattle.ch_base.specs.declared.memory.Stop.TheVariants as stops

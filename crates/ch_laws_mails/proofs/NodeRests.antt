@@ -1,8 +1,7 @@
 -- What a node tells is which of its processes act no more.
-use Rattle.std.proofs.Common.{◌≡◌, ℕ, Bool, true, false, cond, not, ◌&&◌, List, [], ◌∷◌, ◌++◌, map, length, Ok, Err, refl, sym, ap, ◌∙◌, subst, ◌==◌}
-use Rattle.std.proofs.lemmas.Bool.{and_parts}
-use Rattle.std.specs.Option.{option_map, option_to_list}
-use Rattle.std.specs.Prelude.{find, filter, slice_get, Result, Option, Some, None, is_some, ok_or, codes}
+use Rattle.std.proofs.Common.{◌≡◌, ℕ, Bool, true, false, cond, ◌&&◌, List, [], ◌∷◌, ◌++◌, map, Ok, Err, refl, sym, ap, ◌∙◌, subst, ◌==◌}
+use Rattle.std.specs.Option.{option_to_list}
+use Rattle.std.specs.Prelude.{find, Result, Option, Some, None, is_some, ok_or, codes}
 use Rattle.ch_base.specs.declared.address.Address.{Address}
 use Rattle.ch_base.specs.declared.event.Event.{Event}
 use Rattle.ch_base.specs.declared.event.Event.TheVariants as events
@@ -12,7 +11,6 @@ use Rattle.ch_base.specs.declared.memory.Stop.{Stop}
 use Rattle.ch_ident.specs.declared.error.IdentError.{IdentError}
 use Rattle.ch_ident.specs.declared.identifier.ProcessId.{ProcessId}
 use Rattle.ch_ident.specs.declared.identifier.Ref.{Ref}
-use Rattle.ch_ident.specs.declared.identifier.Identifier.{Identifier}
 use Rattle.ch_ident.specs.declared.identifier.Identifier.TheVariants as ends
 use Rattle.ch_ident.specs.declared.message.Message.{Message}
 use Rattle.ch_ident.specs.declared.node_message.NodeMessage.{NodeMessage}
@@ -23,11 +21,8 @@ use Rattle.ch_ident.specs.Reading.{message_of, user_of}
 use Rattle.ch_ident.specs.Spelling as spelling
 use Rattle.ch_mail.specs.declared.error.MailError.{MailError}
 use Rattle.ch_mail.specs.declared.error.MailError.TheVariants as mails
-use Rattle.ch_mail.specs.declared.life.Life.{Life}
-use Rattle.ch_mail.specs.declared.life.Life.TheVariants as lives
-use Rattle.ch_mail.specs.Lives.{is_over as is_life_over}
 use Rattle.ch_mail.specs.Process.{Process}
-use Rattle.ch_mail.specs.Mail.{make_of, put_of, end_of, doom_of, life_of, take_of, take_port_of, open_port_of, downed}
+use Rattle.ch_mail.specs.Mail.{make_of, put_of, end_of, doom_of, take_of, take_port_of, open_port_of, downed}
 use Rattle.ch_static.specs.declared.closure.Closure.{Closure}
 use Rattle.ch_static.specs.declared.command.Command.{Command}
 use Rattle.ch_static.specs.declared.command.Command.TheVariants as commands
@@ -39,11 +34,10 @@ use Rattle.ch_watch.specs.declared.waiting.Kind.{Kind}
 use Rattle.ch_watch.specs.declared.waiting.Kind.TheVariants as kinds
 use Rattle.ch_watch.specs.declared.waiting.Waiting.{Waiting}
 use Rattle.ch_watch.specs.Lists.{Lists}
-use Rattle.ch_watch.specs.Same.{node_of, same_node}
-use Rattle.ch_watch.specs.Watches.{watch_of, unwatch_of, told_of, arrive_of, lost_of, ended_of, find_of, register_of, unregister_of}
+use Rattle.ch_watch.specs.Same.{node_of}
+use Rattle.ch_watch.specs.Watches.{watch_of, unwatch_of, told_of, arrive_of, lost_of, ended_of, register_of, unregister_of}
 use Rattle.ch_model.specs.declared.act.Act.{Act}
 use Rattle.ch_model.specs.declared.act.Act.TheVariants as acts
-use Rattle.ch_model.specs.declared.command.CommandError.{CommandError}
 use Rattle.ch_model.specs.declared.command.CommandError.TheVariants as errors
 use Rattle.ch_model.specs.declared.note.Note.{Note}
 use Rattle.ch_model.specs.declared.note.Note.TheVariants as notes
@@ -52,7 +46,7 @@ use Rattle.ch_model.specs.declared.step.Weight.{Weight}
 use Rattle.ch_model.specs.declared.step.Weight.TheVariants.{Counted, Free}
 use Rattle.ch_model.specs.NodeState.{NodeState, Pair, Mark, Unopened, Opened, Broken, Bound, Unread, Void, FromNode, ToNames, ToTarget, Arrived}
 use Rattle.ch_model.specs.NodeActs.{◌>>=◌, Done, silent, noting, after, ◌and_then◌, each_in_turn, stopping, mailed, watching, or_unchanged, growing}
-use Rattle.ch_model.specs.NodeIds.{process_id, reference_to, is_here, is_own, is_living, is_port_here, target_at}
+use Rattle.ch_model.specs.NodeIds.{process_id, reference_to, is_here, is_own, is_living, target_at}
 use Rattle.ch_model.specs.NodePairs.{pair_of, conn_of, keeping, next_epoch, lost_pairs, conns_by}
 use Rattle.ch_model.specs.NodeConnections.{drawn, opening, conn_to, tell_first, tell_on, tell_node}
 use Rattle.ch_model.specs.NodeLives.{make, doom, mail_to, with_process, reason_of, link_text, exit_text, kill_text}
@@ -61,15 +55,15 @@ use Rattle.ch_model.specs.NodeEnds.{over, bereft, farewell, fallen, shut_lists}
 use Rattle.ch_model.specs.NodeAsks.{spawned_closed, spawned, tell_spawned, fail_unlabelled, spawn_arrives, found_closed, found, tell_found, standing, question_arrives, may_doom, doom_arrives, origin_of}
 use Rattle.ch_model.specs.NodeMessages.{handle, is_for_peer, ask}
 use Rattle.ch_model.specs.NodeSends.{got_put, get, get_standing, deliver, payload_of, weight_of, send_first, send_on, carry, with_said, say, reconnect}
-use Rattle.ch_model.specs.NodeRoom.{acting_as, acting, falling_as, falling, known, fitting, not_full, room_to_send}
+use Rattle.ch_model.specs.NodeRoom.{acting, falling, known, fitting, not_full, room_to_send}
 use Rattle.ch_model.specs.NodeCommands.{send_of, again_of, receive_of, take_port, open_port, finish_of, fall_of}
 use Rattle.ch_model.specs.NodeRequests.{watch_message, unwatch_message, watch, watch_by, unwatch_by, doom_by, asked_note, question, spawn_by, whereis_by, register_by, unregister_by}
-use Rattle.ch_model.specs.NodeArrivals.{bound_between, bound_by, rebound, bind, from_node, to_name, to_target, received_as, received_on, received, arrives, departs, lost_told, peer_lost}
+use Rattle.ch_model.specs.NodeArrivals.{bind, from_node, to_name, to_target, received_as, received_on, received, arrives, departs, lost_told, peer_lost}
 use Rattle.ch_model.specs.Node.{node_make, node_command, node_event, node_shut}
 use Rattle.ch_laws_lives.specs.Rolls.{over_at, notes_in, ArePermitted, IsReached, LivesOn}
 use Rattle.ch_laws_lives.specs.Rolls as lives_rolls
 use Rattle.ch_laws_lives.proofs.NodesTold as lives_told
-use Rattle.ch_laws_mails.specs.Rolls.{Roll, rests_of, rests_after, rests_after_all, roll_of, roll_after, roll_after_all, Tells, RestsOn}
+use Rattle.ch_laws_mails.specs.Rolls.{Roll, rests_of, rests_after, rests_after_all, roll_of, roll_after, roll_after_all, RestsOn}
 use Rattle.ch_laws_mails.proofs.Mails.{Keeps, KeepsBeside, put_keeps, take_keeps, take_port_keeps, open_keeps, doom_rests, MakesOne, makes_one, EndsOne, ends_one, all_down}
 
 -- who acts no more at one node, after what was told at another

@@ -1,5 +1,5 @@
 -- A line by which a process sends to one of its own node is answered as the log before it shows.
-use Rattle.std.proofs.Common.{◌≡◌, ◌<◌, ◌≤◌, ℕ, Bool, true, false, cond, not, ◌==◌, ◌&&◌, ◌||◌, length, List, [], ◌∷◌, Ok, Err, refl, sym, ap, ◌∙◌, subst}
+use Rattle.std.proofs.Common.{◌≡◌, ℕ, Bool, true, false, cond, not, ◌==◌, ◌&&◌, ◌||◌, length, List, [], ◌∷◌, Ok, Err, refl, sym, ap, ◌∙◌, subst}
 use Rattle.std.proofs.lemmas.Bool.{and_parts, leb-true, leb-false, lt-ltb, le-ltb}
 use Rattle.std.proofs.lemmas.Option.{slice_get-map}
 use Rattle.std.proofs.lemmas.Slice.Eq.{bytes_eq-Decides}
@@ -49,7 +49,7 @@ use Rattle.ch_model.specs.WorldState.{Named, World}
 use Rattle.ch_laws_log.specs.Declared.{is_declared}
 use Rattle.ch_laws_log.proofs.Homes.{node_self}
 use Rattle.ch_laws_log.proofs.Keys.{node_is}
-use Rattle.ch_laws_log.proofs.Stored.{number_same, bytes_same}
+use Rattle.ch_laws_log.proofs.Stored.{number_same}
 use Rattle.ch_laws_many.proofs.Answering.{AnsweredAs}
 use Rattle.ch_laws_many.proofs.Reached.{IsJournal}
 use Rattle.ch_laws_mails.specs.Rolls.{rests_of}

@@ -1,8 +1,7 @@
 -- What a cell tells, in the journal's names, tells which processes of its nodes act no more.
-use Rattle.std.proofs.Common.{◌≡◌, ℕ, ◌==◌, Bool, true, false, cond, List, [], ◌∷◌, ◌++◌, map, length, refl, sym, ap, ◌∙◌, subst, append_assoc}
-use Rattle.std.proofs.lemmas.List.{append-nil}
+use Rattle.std.proofs.Common.{◌≡◌, ℕ, ◌==◌, Bool, true, false, cond, List, [], ◌∷◌, ◌++◌, map, refl, sym, ap, ◌∙◌, subst, append_assoc}
 use Rattle.std.proofs.lemmas.Slice.Eq.{bytes_eq-Decides}
-use Rattle.std.specs.Prelude.{find, slice_get, Option, Some, None}
+use Rattle.std.specs.Prelude.{find, Option, Some, None}
 use Rattle.std.specs.Str.{bytes_eq}
 use Rattle.ch_base.specs.declared.address.Address.{Address}
 use Rattle.ch_ident.specs.declared.identifier.ProcessId.{ProcessId}
@@ -18,10 +17,9 @@ use Rattle.ch_model.specs.declared.step.Place.{Place}
 use Rattle.ch_model.specs.declared.step.Step.{Step}
 use Rattle.ch_model.specs.declared.step.Step.TheVariants as steps
 use Rattle.ch_model.specs.Naming.{Names, called}
-use Rattle.ch_model.specs.WorldSockets.{with_end, end_of, with_end_of, with_socket, find_end, is_socket_named, item_arrives, other, ended}
-use Rattle.ch_model.specs.WorldState.{Cell, WorldEnd, WorldSocket, World}
+use Rattle.ch_model.specs.WorldSockets.{with_end_of, find_end, is_socket_named, item_arrives, other, ended}
+use Rattle.ch_model.specs.WorldState.{Cell, WorldSocket, World}
 use Rattle.ch_model.specs.WorldSteps.{note_entry, place_after, on_end, reads_item, item_is_read, end_closes, later_places, stepped, all_told}
-use Rattle.ch_laws_log.proofs.Keys.{node_is}
 use Rattle.ch_laws_log.proofs.Stored.{number_is, number_same, bytes_same}
 use Rattle.ch_laws_lives.specs.Rolls.{Permits, over_at}
 use Rattle.ch_laws_lives.proofs.ToldLives.{is_lifeless, AreLifeless, SameWorld, end_same}

@@ -1,8 +1,8 @@
 -- A new node has the unique number of the one name at its address.
-use Rattle.std.proofs.Common.{◌≡◌, ℕ, zero, suc, ◌==◌, Bool, true, false, cond, List, [], ◌∷◌, map, refl, sym, ap, ◌∙◌, subst}
+use Rattle.std.proofs.Common.{◌≡◌, ℕ, zero, suc, ◌==◌, Bool, true, false, cond, List, [], ◌∷◌, map, refl, ap, ◌∙◌, subst}
 use Rattle.std.proofs.lemmas.Bool.{and_parts}
 use Rattle.std.proofs.lemmas.Slice.Eq.{bytes_eq-Decides}
-use Rattle.std.specs.Prelude.{find, filter, slice_get, Option, Some, None}
+use Rattle.std.specs.Prelude.{find, filter, slice_get, Some, None}
 use Rattle.std.specs.Str.{bytes_eq}
 use Rattle.ch_base.specs.declared.address.Address.{Address}
 use Rattle.ch_watch.specs.Same.{same_node}
@@ -15,7 +15,7 @@ use Rattle.ch_model.specs.WorldState.{Cell, Named}
 use Rattle.ch_laws_log.specs.Declared.{AreApart}
 use Rattle.ch_laws_log.proofs.Homes.{node_self}
 use Rattle.ch_laws_log.proofs.Stored.{number_is}
-use Rattle.ch_laws_mails.specs.Rolls.{Roll, roll_of}
+use Rattle.ch_laws_mails.specs.Rolls.{Roll}
 use Rattle.ch_laws_mails.specs.Cells.{rolls_of, roll_at}
 
 -- the first name at this address has this unique number

@@ -32,7 +32,6 @@ use Rattle.ch_mail.specs.Process.{Process}
 use Rattle.ch_model.specs.NodeState.{NodeState}
 use Rattle.ch_model.specs.WorldState.{Cell, WorldEnd, WorldSocket, World}
 use Rattle.ch_model.specs.WorldSteps.{all_told}
-use Rattle.ch_laws_log.specs.Lines.{AllLines}
 use Rattle.ch_laws_log.specs.Declared.{AreApart}
 use Rattle.ch_laws_many.specs.ManyLines.{is_of_many, AreNamedApart}
 use Rattle.ch_laws_lives.specs.Cells.{AllReached}

@@ -1,4 +1,4 @@
-use Rattle.std.specs.Prelude.{ℕ, take, ◌+◌}
+use Rattle.std.specs.Prelude.{take, ◌+◌}
 use Rattle.ch_model.specs.Journal.{journal_of, raw_lines, longest_journal}
 use Rattle.ch_model.specs.LinesBuilt.{many_nodes}
 use Rattle.ch_laws_many.proofs.Declared.{names_apart}
