@@ -1,1 +1,5 @@
 pub mod Told
+pub mod Openers
+pub mod Requests
+pub mod ReadAddresses
+pub mod Items

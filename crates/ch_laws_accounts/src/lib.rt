@@ -1,17 +1,39 @@
-//! The laws of the accounts of bytes, for the journals of many nodes: who writes, and what requests say.
+//! The laws of the accounts of bytes, for the journals of many nodes: that nodes write whole items, and what their requests
+//! say.
 //!
-//! No code: laws as clauses of empty functions, over the model and the laws below.
+//! No code: laws as clauses of empty functions. The grammar, the model, and the laws of what is written, of links and of
+//! the journals of many nodes stand below.
 #![tactic(auto)]
 
 ghost use Rattle.std.specs.Prelude.{◌≡◌, ℕ, List, Ok, IsTrue};
 ghost use Rattle.std.specs.List.{list_all};
 ghost use Rattle.ch_model.specs.declared.entry.Entry.{Entry};
+ghost use Rattle.ch_model.specs.AccountsBytes.{writes_an_item, requests_by_name};
 ghost use Rattle.ch_model.specs.Journal.{journal_of};
 ghost use Rattle.ch_model.specs.LinesBuilt.{many_nodes};
+ghost use Rattle.ch_model.specs.Logs.{each};
 ghost use Rattle.ch_model.specs.World.{names_of, log_of};
+ghost use Rattle.ch_laws_bytes.specs.Streams.{AreAddresses};
 ghost use Rattle.ch_laws_accounts.specs.Openers.{is_of_declared};
 
-/// In the log of a journal of many nodes each opener's end that is joined, or that writes, is of a declared name.
+/// In the log of each journal that the grammar of many nodes reads, an opener's end that is joined, or that writes, is of a
+/// declared name; and no stranger knocks there. It is joined by a line, which names declared nodes alone, and it writes
+/// only where its host has it open.
 pub fn openers_are_declared()
     ensures { (bytes : List ℕ) (log : List Entry) → log_of (journal_of many_nodes bytes) ≡ Ok log → IsTrue (list_all (is_of_declared (names_of (journal_of many_nodes bytes))) log) }
+{}
+
+/// So what an opener's end writes first is a request from the address of its node, as the journal declares it.
+pub fn requests_by_their_names()
+    ensures { (bytes : List ℕ) (log : List Entry) → log_of (journal_of many_nodes bytes) ≡ Ok log → IsTrue (each (requests_by_name (journal_of many_nodes bytes)) log) }
+{}
+
+/// Each address that such a journal declares is one that may be spelled, as it was read.
+pub fn addresses_are_read()
+    ensures { (bytes : List ℕ) → AreAddresses (names_of (journal_of many_nodes bytes)) }
+{}
+
+/// So each writing of an end is one item: a request or an answer first, and then frames; requests may be read, too.
+pub fn nodes_write_items()
+    ensures { (bytes : List ℕ) (log : List Entry) → log_of (journal_of many_nodes bytes) ≡ Ok log → IsTrue (each (writes_an_item (journal_of many_nodes bytes)) log) }
 {}
