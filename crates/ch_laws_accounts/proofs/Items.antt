@@ -2,7 +2,7 @@
 use Rattle.std.proofs.Common.{◌≡◌, ℕ, ◌<◌, ◌^◌, Bool, true, false, cond, not, ◌&&◌, ◌||◌, List, [], ◌∷◌, ◌++◌, length, take, Ok, refl, sym, ap, ◌∙◌, subst, arith}
 use Rattle.std.proofs.lemmas.List.{take_at}
 use Rattle.std.specs.List.{list_all}
-use Rattle.std.specs.Prelude.{find, is_some, Option, Some, None, ◌==◌}
+use Rattle.std.specs.Prelude.{find, is_some, Some, None, ◌==◌}
 use Rattle.ch_base.specs.Addresses.{IsAddress, address_text}
 use Rattle.ch_base.specs.declared.address.Address.{Address}
 use Rattle.ch_reader.specs.Runs.{IsBytes}
@@ -37,7 +37,7 @@ use Rattle.ch_laws_writes.proofs.Asked.{log_asks_by_name}
 use Rattle.ch_laws_writes.proofs.ReadBack.{IsRead, due_is_read, log_writes_items}
 use Rattle.ch_laws_accounts.specs.Openers.{is_of_declared}
 use Rattle.ch_laws_accounts.proofs.Told.{AreOf}
-use Rattle.ch_laws_accounts.proofs.Openers.{Ends, journal_ends}
+use Rattle.ch_laws_accounts.proofs.Openers.{journal_ends}
 use Rattle.ch_laws_accounts.proofs.Requests.{word_bytes, spelled_again, not_nobody}
 
 -- ---- a request

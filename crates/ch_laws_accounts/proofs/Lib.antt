@@ -3,3 +3,4 @@ pub mod Openers
 pub mod Requests
 pub mod ReadAddresses
 pub mod Items
+pub mod Written

@@ -4,7 +4,7 @@ use Rattle.std.proofs.lemmas.Bool.{and_parts}
 use Rattle.std.proofs.lemmas.List.{append-nil}
 use Rattle.std.specs.List.{list_any, list_all}
 use Rattle.std.specs.Option.{option_map}
-use Rattle.std.specs.Prelude.{find, is_some, slice_get, slice_set, Option, Some, None, ◌==◌}
+use Rattle.std.specs.Prelude.{find, is_some, slice_get, Option, Some, None, ◌==◌}
 use Rattle.ch_static.specs.declared.command.Command.TheVariants as commands
 use Rattle.ch_model.specs.declared.entry.Entry.{Entry}
 use Rattle.ch_model.specs.declared.entry.Entry.TheVariants as entries
@@ -22,14 +22,13 @@ use Rattle.ch_model.specs.declared.step.SocketEvent.TheVariants as sockets
 use Rattle.ch_model.specs.HostState.{Socket, HostState}
 use Rattle.ch_model.specs.HostSteps.{is_socket}
 use Rattle.ch_model.specs.Naming.{address_as, target_as}
-use Rattle.ch_model.specs.Same.{same_socket}
 use Rattle.ch_model.specs.Settle.{Happened}
 use Rattle.ch_model.specs.Sockets.{is_opening, opens_opener, ends_opener, closes, end_state}
 use Rattle.ch_model.specs.Stages.{Stage, Pending, Open, Ended, is_pending, is_open}
 use Rattle.ch_model.specs.World.{◌>>=◌, names_of, world_new, world_step, line_answered, log_from, log_of}
 use Rattle.ch_model.specs.WorldHappenings.{Answered, after_entry, with_cell, cell_hears, end_hears, joins, comes_at, comes, hands, feeds, mark_of}
 use Rattle.ch_model.specs.WorldLines.{node_hears, on_socket, can_join, can_come, can_feed, is_at_work, line_done}
-use Rattle.ch_model.specs.WorldSockets.{end_of, opened, is_of_host, has_input, is_socket_named, store_in, with_end_of, same_number, is_end_of, find_end, cell_of}
+use Rattle.ch_model.specs.WorldSockets.{end_of, opened, is_of_host, has_input, is_socket_named, with_end_of, same_number, is_end_of, find_end, cell_of}
 use Rattle.ch_model.specs.WorldState.{Cell, Named, WorldEnd, WorldSocket, World}
 use Rattle.ch_laws_log.specs.Declared.{is_declared}
 use Rattle.ch_laws_log.specs.HostEnds.{stage_at}
@@ -38,7 +37,7 @@ use Rattle.ch_laws_log.specs.WorldEnds.{stage_found}
 use Rattle.ch_laws_log.proofs.Agreeing.{Good, keeps_good}
 use Rattle.ch_laws_log.proofs.Kept.{IsIn, LedOn}
 use Rattle.ch_laws_log.proofs.Stored.{IsHeld, number_is, number_same, same_is, find_name, found_end}
-use Rattle.ch_laws_ends.proofs.Came.{MayCome, come_as, come_socket, come_found, come_sockets}
+use Rattle.ch_laws_ends.proofs.Came.{MayCome, come_as, come_found, come_sockets}
 use Rattle.ch_laws_ends.proofs.Found.{none_found}
 use Rattle.ch_laws_ends.proofs.Known.{TargetIs, pending_is}
 use Rattle.ch_laws_ends.proofs.Lines.{step_sure, fresh_sure}
@@ -49,13 +48,13 @@ use Rattle.ch_laws_links.specs.Cells.{standing_local, ComesFreeTo}
 use Rattle.ch_laws_links.specs.Naming.{Word, stage_says}
 use Rattle.ch_laws_links.specs.Standing.{Standing, IsOpen, standing, standing_of, standing_at, is_there, joined}
 use Rattle.ch_laws_links.proofs.Happenings.{step_led}
-use Rattle.ch_laws_links.proofs.Worlds.{AllNaming, MayHear, came_may, end_cells, set_here, Named as NamedCells, holds_named, named_after}
+use Rattle.ch_laws_links.proofs.Worlds.{came_may, end_cells, set_here, Named as NamedCells, holds_named, named_after}
 use Rattle.ch_laws_many.specs.ManyLines.{is_of_many}
 use Rattle.ch_laws_many.proofs.Led.{IsSet, step_goes, GoesOn}
-use Rattle.ch_laws_many.proofs.Reached.{IsJournal, named, Reached, fresh_reached}
+use Rattle.ch_laws_many.proofs.Reached.{IsJournal, named, fresh_reached}
 use Rattle.ch_laws_writes.proofs.Found.{KeepsPlace, kept_ends}
 use Rattle.ch_laws_accounts.specs.Openers.{is_of_declared}
-use Rattle.ch_laws_accounts.proofs.Told.{AreOf, of_both, OfDeclared, Fit, fit_still, AnsweredOf, MayTell, hears_of}
+use Rattle.ch_laws_accounts.proofs.Told.{AreOf, of_both, Fit, fit_still, AnsweredOf, MayTell, hears_of}
 
 -- ---- what holds before each line
 

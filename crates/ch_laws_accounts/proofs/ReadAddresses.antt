@@ -10,10 +10,9 @@ use Rattle.ch_base.proofs.Addresses.{read_found}
 use Rattle.ch_model.specs.declared.refusal.BadKind.{BadKind}
 use Rattle.ch_model.specs.declared.refusal.BadKind.TheVariants.{Form, Repeated}
 use Rattle.ch_model.specs.declared.refusal.LineFault.TheVariants.{TooLong}
-use Rattle.ch_model.specs.declared.line.Line.{Line}
 use Rattle.ch_model.specs.declared.line.What.{What}
 use Rattle.ch_model.specs.declared.line.What.TheVariants as lines
-use Rattle.ch_model.specs.Fields.{need, field_of, last_of, node_name_of, digits_of, read_as, address_of, end_of, word_of, sent_mark_of, bytes_of, number_in, count_in}
+use Rattle.ch_model.specs.Fields.{need, field_of, last_of, node_name_of, digits_of, read_as, address_of, end_of, sent_mark_of, bytes_of, number_in, count_in}
 use Rattle.ch_model.specs.FieldsOfNames.{process_of, numbered, socket_of, numbered_socket}
 use Rattle.ch_model.specs.Journal.{Scan, stopped, is_too_long, size_of, scan_from, scan_lines, longest_journal}
 use Rattle.ch_model.specs.Lines.{line_of_word, line_said, said_and_told, read_line, header}

@@ -1,5 +1,5 @@
 -- An opener's request is from the address of its node.
-use Rattle.std.proofs.Common.{◌≡◌, ℕ, zero, suc, ◌<◌, ◌^◌, ◌%◌, ◌/◌, Bool, true, false, cond, ◌&&◌, ◌||◌, List, [], ◌∷◌, ◌++◌, length, take, Ok, refl, sym, ap, ◌∙◌, subst, arith}
+use Rattle.std.proofs.Common.{◌≡◌, ℕ, zero, suc, ◌<◌, ◌^◌, ◌/◌, Bool, true, false, cond, ◌&&◌, ◌||◌, List, [], ◌∷◌, ◌++◌, length, take, Ok, refl, sym, ap, ◌∙◌, subst, arith}
 use Rattle.std.proofs.lemmas.Bool.Decides.{nat_tests}
 use Rattle.std.proofs.lemmas.List.{take_at}
 use Rattle.std.proofs.lemmas.Nat.{be_bytes_4}
@@ -41,7 +41,7 @@ use Rattle.ch_laws_writes.specs.Writings.{AsksByName, EachAsksByName}
 use Rattle.ch_laws_writes.proofs.Asked.{log_asks_by_name}
 use Rattle.ch_laws_accounts.specs.Openers.{is_of_declared}
 use Rattle.ch_laws_accounts.proofs.Told.{AreOf}
-use Rattle.ch_laws_accounts.proofs.Openers.{Ends, journal_ends}
+use Rattle.ch_laws_accounts.proofs.Openers.{journal_ends}
 
 -- ---- words
 

@@ -2,7 +2,6 @@
 use Rattle.std.proofs.Common.{◌≡◌, ℕ, Bool, true, false, cond, ◌&&◌, List, [], ◌∷◌, ◌++◌, Ok, Err, refl, sym, ap, ◌∙◌, subst}
 use Rattle.std.specs.Option.{option_map}
 use Rattle.std.specs.Prelude.{find, slice_get, Option, Some, None, ◌==◌}
-use Rattle.ch_base.specs.declared.address.Address.{Address}
 use Rattle.ch_model.specs.declared.entry.Entry.{Entry}
 use Rattle.ch_model.specs.declared.entry.Entry.TheVariants as entries
 use Rattle.ch_model.specs.declared.entry.Verdict.TheVariants as verdicts
@@ -23,7 +22,7 @@ use Rattle.ch_model.specs.HostSteps.{own_address}
 use Rattle.ch_model.specs.Naming.{Names, called}
 use Rattle.ch_model.specs.Stages.{Pending}
 use Rattle.ch_model.specs.WorldHappenings.{Answered, with_cell, cell_told, cell_hears}
-use Rattle.ch_model.specs.WorldSockets.{other, ended, item_arrives, end_of_nobody, is_socket_named, store_in, with_end_of, is_end_of, find_end, cell_of, next_name, new_socket}
+use Rattle.ch_model.specs.WorldSockets.{other, ended, item_arrives, end_of_nobody, is_socket_named, store_in, with_end_of, find_end, cell_of, new_socket}
 use Rattle.ch_model.specs.WorldState.{Cell, Named, WorldSocket, World}
 use Rattle.ch_model.specs.WorldSteps.{note_entry, on_end, later_places, item_is_read, reads_item, end_closes, stepped, local_told, all_told}
 use Rattle.ch_laws_log.specs.Declared.{is_declared}

@@ -2,7 +2,7 @@
 use Rattle.std.specs.Prelude.{Bool, true, false, List}
 use Rattle.ch_model.specs.declared.entry.Entry.{Entry}
 use Rattle.ch_model.specs.declared.entry.Entry.TheVariants as entries
-use Rattle.ch_model.specs.declared.name.End.TheVariants.{O, T}
+use Rattle.ch_model.specs.declared.name.End.TheVariants.{O}
 use Rattle.ch_model.specs.WorldState.{Named}
 use Rattle.ch_laws_log.specs.Declared.{is_declared}
 

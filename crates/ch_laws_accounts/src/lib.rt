@@ -15,6 +15,7 @@ ghost use Rattle.ch_model.specs.Logs.{each};
 ghost use Rattle.ch_model.specs.World.{names_of, log_of};
 ghost use Rattle.ch_laws_bytes.specs.Streams.{AreAddresses};
 ghost use Rattle.ch_laws_accounts.specs.Openers.{is_of_declared};
+ghost use Rattle.ch_laws_accounts.specs.Written.{WritesAndFeeds};
 
 /// In the log of each journal that the grammar of many nodes reads, an opener's end that is joined, or that writes, is of a
 /// declared name; and no stranger knocks there. It is joined by a line, which names declared nodes alone, and it writes
@@ -36,4 +37,10 @@ pub fn addresses_are_read()
 /// So each writing of an end is one item: a request or an answer first, and then frames; requests may be read, too.
 pub fn nodes_write_items()
     ensures { (bytes : List ℕ) (log : List Entry) → log_of (journal_of many_nodes bytes) ≡ Ok log → IsTrue (each (writes_an_item (journal_of many_nodes bytes)) log) }
+{}
+
+/// With what is proved below, five of the nine accounts of bytes: each writing is one item, requests are from their node's
+/// address, nothing is written after a refusal, and what is fed was unread, to the end of input.
+pub fn writes_and_feeds()
+    ensures { (bytes : List ℕ) (log : List Entry) → log_of (journal_of many_nodes bytes) ≡ Ok log → WritesAndFeeds (journal_of many_nodes bytes) log }
 {}
