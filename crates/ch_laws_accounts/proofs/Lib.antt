@@ -4,3 +4,4 @@ pub mod Requests
 pub mod ReadAddresses
 pub mod Items
 pub mod Written
+pub mod Ups

@@ -5,16 +5,21 @@
 //! the journals of many nodes stand below.
 #![tactic(auto)]
 
-ghost use Rattle.std.specs.Prelude.{◌≡◌, ℕ, List, Ok, IsTrue};
+ghost use Rattle.std.specs.Prelude.{◌≡◌, ℕ, List, Some, Ok, IsTrue};
 ghost use Rattle.std.specs.List.{list_all};
 ghost use Rattle.ch_model.specs.declared.entry.Entry.{Entry};
 ghost use Rattle.ch_model.specs.AccountsBytes.{writes_an_item, requests_by_name};
+ghost use Rattle.ch_model.specs.declared.step.Step.{Step};
+ghost use Rattle.ch_model.specs.Host.{host_next};
+ghost use Rattle.ch_model.specs.HostState.{HostState};
 ghost use Rattle.ch_model.specs.Journal.{journal_of};
 ghost use Rattle.ch_model.specs.LinesBuilt.{many_nodes};
 ghost use Rattle.ch_model.specs.Logs.{each};
 ghost use Rattle.ch_model.specs.World.{names_of, log_of};
 ghost use Rattle.ch_laws_bytes.specs.Streams.{AreAddresses};
+ghost use Rattle.ch_laws_links.specs.Naming.{IsNaming};
 ghost use Rattle.ch_laws_accounts.specs.Openers.{is_of_declared};
+ghost use Rattle.ch_laws_accounts.specs.Ups.{AllUps, IsRaised};
 ghost use Rattle.ch_laws_accounts.specs.Written.{WritesAndFeeds};
 
 /// In the log of each journal that the grammar of many nodes reads, an opener's end that is joined, or that writes, is of a
@@ -43,4 +48,10 @@ pub fn nodes_write_items()
 /// address, nothing is written after a refusal, and what is fed was unread, to the end of input.
 pub fn writes_and_feeds()
     ensures { (bytes : List ℕ) (log : List Entry) → log_of (journal_of many_nodes bytes) ≡ Ok log → WritesAndFeeds (journal_of many_nodes bytes) log }
+{}
+
+/// Where a host whose links and sockets say the same of each other handles an item, a link comes up only on a socket at
+/// the front of whose bytes stands a request, or the answer that accepts.
+pub fn ups_are_read()
+    ensures { (host after : HostState) (told : List Step) → IsNaming host → host_next host ≡ Ok (Some told, after) → AllUps (IsRaised host) told }
 {}
