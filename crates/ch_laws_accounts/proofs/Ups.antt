@@ -1,16 +1,17 @@
 -- A link comes up on a socket only by the item that the host reads of it: a request, or the accepting answer.
-use Rattle.std.proofs.Common.{◌≡◌, ◌⊎◌, inl, inr, ℕ, ◌+◌, ◌*◌, Bool, true, false, cond, ◌&&◌, List, [], ◌∷◌, ◌++◌, drop, map, Ok, Err, refl, sym, ap, ◌∙◌, subst}
+use Rattle.std.proofs.Common.{◌==◌, ◌≡◌, ◌⊎◌, inl, inr, ℕ, ◌+◌, Bool, true, false, cond, ◌&&◌, List, [], ◌∷◌, ◌++◌, drop, map, Ok, Err, refl, sym, ap, ◌∙◌, subst}
 use Rattle.std.specs.Prelude.{find, nat_lt, Result, Option, Some, None}
 use Rattle.ch_base.specs.declared.address.Address.{Address}
 use Rattle.ch_base.specs.declared.event.Event.TheVariants as events
 use Rattle.ch_base.specs.declared.memory.Stop.{Stop}
 use Rattle.ch_base.specs.declared.memory.Stop.TheVariants as stops
+use Rattle.ch_wire.specs.Spelling.{request_spelling}
 use Rattle.ch_wire.specs.declared.answer.Answer.{Answer}
 use Rattle.ch_wire.specs.declared.answer.Answer.TheVariants as answers
 use Rattle.ch_wire.specs.declared.frame.Frame.{Frame}
 use Rattle.ch_wire.specs.declared.frame.Frame.TheVariants as frames
 use Rattle.ch_wire.specs.declared.request.Request.{Request}
-use Rattle.ch_light.specs.Ids.{created_of, conn_of, closed_of}
+use Rattle.ch_light.specs.Ids.{give_of, id_of, close_of, created_of, conn_of, closed_of}
 use Rattle.ch_light.specs.declared.Connection.{Connection}
 use Rattle.ch_light.specs.declared.error.LightError.{LightError}
 use Rattle.ch_link.specs.Sockets.{names}
@@ -27,17 +28,22 @@ use Rattle.ch_reader.specs.declared.item.Front.{Front}
 use Rattle.ch_reader.specs.declared.item.Front.TheVariants.{Unfinished, Whole, Refused}
 use Rattle.ch_reader.specs.declared.item.Item.{Item}
 use Rattle.ch_reader.specs.declared.item.Item.TheVariants as items
+use Rattle.ch_model.specs.declared.step.EndError.{EndError}
+use Rattle.ch_model.specs.declared.step.SocketEvent.{SocketEvent}
+use Rattle.ch_model.specs.declared.step.SocketEvent.TheVariants as sockets
 use Rattle.ch_model.specs.declared.step.Step.{Step}
 use Rattle.ch_model.specs.declared.step.Step.TheVariants as steps
 use Rattle.ch_model.specs.declared.step.Weight.{Weight}
+use Rattle.ch_model.specs.declared.step.Weight.TheVariants.{Free}
 use Rattle.ch_model.specs.Greater.{is_greater}
-use Rattle.ch_model.specs.Host.{front_of, is_ready_front, first_ready, takes, handles, some_steps, host_next}
-use Rattle.ch_model.specs.HostItems.{posts, gone_from, is_gone, refusal_of, asks_link, reads_request, heard_answer, arrived_at, most_arrived, next_arrival, with_arrival, arrives, closes, receives, reads_frame, reads_on, reads_other, reads}
-use Rattle.ch_model.specs.HostLinks.{most_dials, dialed, dials_for, wanted_on, asked_on, accepts_on, fails_with, says_closed, raised, acknowledged, does_act, hears}
+use Rattle.ch_model.specs.Host.{on_socket, joins, keeps, host_on, front_of, is_ready_front, first_ready, takes, handles, some_steps, host_next}
+use Rattle.ch_model.specs.HostCalls.{◌>>=◌, stepped, of_ids, open_endpoint, wants, puts_and_wants, host_connect, carries, found_or, short_enough, has_room, host_send, host_close, shuts_links, closes_endpoint, host_close_endpoint, host_timer_runs}
+use Rattle.ch_model.specs.HostItems.{posts, gone_from, is_gone, refusal_of, asks_link, reads_request, heard_answer, arrived_at, most_arrived, next_arrival, with_arrival, arrives, closes, receives, reads_frame, reads_on, reads}
+use Rattle.ch_model.specs.HostLinks.{next_dial, most_dials, dialed, dials_for, wanted_on, asked_on, accepts_on, fails_with, says_closed, raised, acknowledged, does_act, hears}
 use Rattle.ch_model.specs.HostState.{Link, Socket, HostState}
-use Rattle.ch_model.specs.HostSteps.{Stepped, after_steps, ◌then◌, is_socket, own_address, link_with, with_link, with_socket}
-use Rattle.ch_model.specs.HostWrites.{frame_step, leaves, answers_and_leaves, flushes_to, forgotten, leaves_off}
-use Rattle.ch_model.specs.Stages.{Stage, Pending, Open, Ended, is_open, is_ended}
+use Rattle.ch_model.specs.HostSteps.{Stepped, is_endpoint, after_steps, ◌then◌, is_socket, own_address, link_with, with_link, with_socket}
+use Rattle.ch_model.specs.HostWrites.{writes, puts, frame_step, leaves, answers_and_leaves, forgotten, leaves_off}
+use Rattle.ch_model.specs.Stages.{Stage, Pending, Open, Ended, is_pending, is_open, is_ended}
 use Rattle.ch_laws_items.proofs.Next.{served}
 use Rattle.ch_laws_links.specs.Naming.{IsNaming, IsDialedBy, IsUpFor}
 use Rattle.ch_laws_links.proofs.Says.{used}
@@ -297,3 +303,113 @@ next_ups host after told s e = by_first (first_ready host.sockets) refl e where
   by_first None f e = let never : None ≡ Some told = ap some_in e in absurd cc
   by_first (Some socket) f e = let at = served host.sockets socket s.sockets f in
       by_done (handles socket (front_of socket) host) (handled_ups host socket s (record { found = at.found; stands = open_front socket.stage (is_ready_front (front_of socket).0) at.ready })) e
+
+-- ---- what else a host does raises none
+
+told_ups : (P : ℕ → Type 0) (done : Stepped) (after : HostState) (told : List Step) → StepUps P done → done ≡ Ok (told, after) → AllUps P told
+told_ups P done after told u e = subst (StepUps P) e u
+
+on_ups : (P : ℕ → Type 0) (test : Stage → Bool) (sock : ℕ) (f : Socket → HostState → Stepped) (host : HostState) → ((socket : Socket) → StepUps P (f socket host)) → StepUps P (on_socket test sock f host)
+on_ups P test sock f host each = by_socket (find (is_socket sock) host.sockets) where
+  by_test : (socket : Socket) (b : Bool) → StepUps P (cond b (f socket host) (Ok ([], host)))
+  by_test socket true = each socket
+  by_test socket false = tt
+
+  by_socket : (o : Option Socket) → StepUps P (elim o as (λ o. Stepped) [
+    | None ↦ Ok ([], host)
+    | Some socket ↦ cond (test socket.stage) (f socket host) (Ok ([], host))
+  ])
+  by_socket None = tt
+  by_socket (Some socket) = by_test socket (test socket.stage)
+
+join_ups : (P : ℕ → Type 0) (socket : Socket) (host : HostState) → StepUps P (joins socket host)
+join_ups P socket host = by_user socket.user where
+  by_user : (o : Option (ℕ × Address)) → StepUps P (elim o as (λ o. Stepped) [
+    | None ↦ Ok ([], host)
+    | Some user ↦ writes socket.number (request_spelling (record { target = user.1.id; from = own_address host user.0 })) (with_socket (record socket { stage = Open }) host)
+  ])
+  by_user None = tt
+  by_user (Some user) = tt
+
+event_ups : (P : ℕ → Type 0) (host : HostState) (event : SocketEvent) → StepUps P (host_on host event)
+unfolding host_on
+event_ups P host (sockets.Joined sock) = on_ups P is_pending sock joins host (λ socket. join_ups P socket host)
+event_ups P host (sockets.Came sock peer_host) = tt
+event_ups P host (sockets.Refused sock) = on_ups P is_pending sock is_gone host (λ socket. gone_ups P socket host)
+event_ups P host (sockets.Fed sock bytes) = on_ups P is_open sock (keeps bytes) host (λ socket. tt)
+event_ups P host (sockets.Ended sock) = on_ups P is_open sock is_gone host (λ socket. gone_ups P socket host)
+event_ups P host (sockets.Lost sock) = on_ups P is_open sock is_gone host (λ socket. gone_ups P socket host)
+event_ups P host (sockets.Late end peer) = by_test (host_timer_runs host end peer) where
+  by_test : (b : Bool) → StepUps P (cond b (hears inputs.Late (link_with host end peer) host) (Ok ([], host)))
+  by_test true = hears_ups P inputs.Late (link_with host end peer) host tt
+  by_test false = tt
+
+pub on_raises_none : (host after : HostState) (event : SocketEvent) (told : List Step) → host_on host event ≡ Ok (told, after) → AllUps (λ n. ⊥) told
+on_raises_none host after event told e = told_ups (λ n. ⊥) (host_on host event) after told (event_ups (λ n. ⊥) host event) e
+
+-- ---- what an endpoint asks
+
+abbrev EndUps : (ℕ → Type 0) → Result (List Step × HostState) EndError → Type 0
+EndUps P (Ok done) = AllUps P done.0
+EndUps P (Err e) = Unit {0}
+
+bind_ups : {A : Type 0} (P : ℕ → Type 0) (x : Result A EndError) (f : A → Result (List Step × HostState) EndError) → ((a : A) → EndUps P (f a)) → EndUps P (x >>= f)
+bind_ups P (Ok a) f g = g a
+bind_ups P (Err e) f g = tt
+
+stepped_ups : (P : ℕ → Type 0) (done : Stepped) → StepUps P done → EndUps P (stepped done)
+stepped_ups P (Ok done) u = u
+stepped_ups P (Err stop) u = tt
+
+put_ups : (P : ℕ → Type 0) (item : Frame × Weight) (link : Link) (host : HostState) → StepUps P (puts item link host)
+put_ups P item link host = by_state link.state where
+  by_state : (state : LinkState) → StepUps P (elim state as (λ s. Stepped) [
+    | Up sock probed ↦ Ok (frame_step sock item ∷ [], with_link link host)
+    | _ ↦ Ok ([], with_link (record link { waits = link.waits ++ item ∷ [] }) host)
+  ])
+  by_state Idle = tt
+  by_state (Dialing d) = tt
+  by_state AwaitOther = tt
+  by_state (Up u probed) = tt
+
+wants_ups : (P : ℕ → Type 0) (item : Frame × Weight) (link : Link) (host : HostState) → StepUps P (puts_and_wants item link host)
+wants_ups P item link host = then_ups P (puts item link host) (wants link.end link.peer) (put_ups P item link host) (λ next. hears_ups P (inputs.Want (next_dial next)) (link_with next link.end link.peer) next tt)
+
+done_ups : (P : ℕ → Type 0) (done : Result (List Step × HostState) EndError) (after : HostState) (told : List Step) → EndUps P done → done ≡ Ok (told, after) → AllUps P told
+done_ups P done after told u e = subst (EndUps P) e u
+
+connect_ups : (P : ℕ → Type 0) (host : HostState) (end : ℕ) (peer : Address) (conn : ℕ) → EndUps P (host_connect host end peer conn)
+unfolding host_connect
+connect_ups P host end peer conn = bind_ups P (open_endpoint host end) _ (λ standing. bind_ups P (of_ids (give_of (link_with host end peer).given conn)) _ (λ given. stepped_ups P (puts_and_wants (frames.Created given.0, Free) (record (link_with host end peer) { given = given.1 }) host) (wants_ups P (frames.Created given.0, Free) (record (link_with host end peer) { given = given.1 }) host)))
+
+send_ups : (P : ℕ → Type 0) (host : HostState) (end conn : ℕ) (payload : List ℕ) (weight : Weight) → EndUps P (host_send host end conn payload weight)
+unfolding host_send
+send_ups P host end conn payload weight =
+    bind_ups P (found_or (find (carries end conn) host.links)) _ (λ link. bind_ups P (short_enough payload) _ (λ short. bind_ups P (has_room link weight) _ (λ roomy. bind_ups P (found_or (id_of link.given conn)) _ (λ id. stepped_ups P (puts_and_wants (frames.Data id short, weight) link host) (wants_ups P (frames.Data id short, weight) link host)))))
+
+close_ups : (P : ℕ → Type 0) (host : HostState) (end conn : ℕ) → EndUps P (host_close host end conn)
+unfolding host_close
+close_ups P host end conn = bind_ups P (found_or (find (carries end conn) host.links)) _ (λ link. bind_ups P (of_ids (close_of link.given conn)) _ (λ closed. stepped_ups P (puts (frames.Closed closed.0, Free) (record link { given = closed.1 }) host) (put_ups P (frames.Closed closed.0, Free) (record link { given = closed.1 }) host)))
+
+shut_ups : (P : ℕ → Type 0) (end : ℕ) (all : List Link) (host : HostState) → StepUps P (shuts_links end all host)
+shut_ups P end [] host = tt
+shut_ups P end (link ∷ rest) host = by_test (link.end == end) (shut_ups P end rest) where
+  by_test : (b : Bool) → ((next : HostState) → StepUps P (shuts_links end rest next)) → StepUps P (cond b (hears inputs.Shut (link_with host end link.peer) host) (Ok ([], host)) then shuts_links end rest)
+  by_test true k = then_ups P (hears inputs.Shut (link_with host end link.peer) host) (shuts_links end rest) (hears_ups P inputs.Shut (link_with host end link.peer) host tt) k
+  by_test false k = then_ups P (Ok ([], host)) (shuts_links end rest) tt k
+
+close_endpoint_ups : (P : ℕ → Type 0) (host : HostState) (end : ℕ) → EndUps P (host_close_endpoint host end)
+unfolding host_close_endpoint
+close_endpoint_ups P host end = bind_ups P (open_endpoint host end) _ (λ standing. stepped_ups P (shuts_links end host.links host then (λ shut. posts end events.EndPointClosed (closes_endpoint (find (is_endpoint end) shut.ends) shut))) (then_ups P (shuts_links end host.links host) (λ shut. posts end events.EndPointClosed (closes_endpoint (find (is_endpoint end) shut.ends) shut)) (shut_ups P end host.links host) (λ next. tt)))
+
+pub connect_raises_none : (host after : HostState) (end : ℕ) (peer : Address) (conn : ℕ) (told : List Step) → host_connect host end peer conn ≡ Ok (told, after) → AllUps (λ n. ⊥) told
+connect_raises_none host after end peer conn told e = done_ups (λ n. ⊥) (host_connect host end peer conn) after told (connect_ups (λ n. ⊥) host end peer conn) e
+
+pub send_raises_none : (host after : HostState) (end conn : ℕ) (payload : List ℕ) (weight : Weight) (told : List Step) → host_send host end conn payload weight ≡ Ok (told, after) → AllUps (λ n. ⊥) told
+send_raises_none host after end conn payload weight told e = done_ups (λ n. ⊥) (host_send host end conn payload weight) after told (send_ups (λ n. ⊥) host end conn payload weight) e
+
+pub close_raises_none : (host after : HostState) (end conn : ℕ) (told : List Step) → host_close host end conn ≡ Ok (told, after) → AllUps (λ n. ⊥) told
+close_raises_none host after end conn told e = done_ups (λ n. ⊥) (host_close host end conn) after told (close_ups (λ n. ⊥) host end conn) e
+
+pub close_endpoint_raises_none : (host after : HostState) (end : ℕ) (told : List Step) → host_close_endpoint host end ≡ Ok (told, after) → AllUps (λ n. ⊥) told
+close_endpoint_raises_none host after end told e = done_ups (λ n. ⊥) (host_close_endpoint host end) after told (close_endpoint_ups (λ n. ⊥) host end) e

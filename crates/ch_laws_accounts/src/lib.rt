@@ -1,5 +1,5 @@
 //! The laws of the accounts of bytes, for the journals of many nodes: that nodes write whole items, and what their requests
-//! say.
+//! say; and for every host, by which items its links come up.
 //!
 //! No code: laws as clauses of empty functions. The grammar, the model, and the laws of what is written, of links and of
 //! the journals of many nodes stand below.
@@ -7,10 +7,14 @@
 
 ghost use Rattle.std.specs.Prelude.{◌≡◌, ℕ, List, Some, Ok, IsTrue};
 ghost use Rattle.std.specs.List.{list_all};
+ghost use Rattle.ch_base.specs.declared.address.Address.{Address};
 ghost use Rattle.ch_model.specs.declared.entry.Entry.{Entry};
 ghost use Rattle.ch_model.specs.AccountsBytes.{writes_an_item, requests_by_name};
+ghost use Rattle.ch_model.specs.declared.step.SocketEvent.{SocketEvent};
 ghost use Rattle.ch_model.specs.declared.step.Step.{Step};
-ghost use Rattle.ch_model.specs.Host.{host_next};
+ghost use Rattle.ch_model.specs.declared.step.Weight.{Weight};
+ghost use Rattle.ch_model.specs.Host.{host_on, host_next};
+ghost use Rattle.ch_model.specs.HostCalls.{host_connect, host_send, host_close, host_close_endpoint};
 ghost use Rattle.ch_model.specs.HostState.{HostState};
 ghost use Rattle.ch_model.specs.Journal.{journal_of};
 ghost use Rattle.ch_model.specs.LinesBuilt.{many_nodes};
@@ -51,7 +55,12 @@ pub fn writes_and_feeds()
 {}
 
 /// Where a host whose links and sockets say the same of each other handles an item, a link comes up only on a socket at
-/// the front of whose bytes stands a request, or the answer that accepts.
+/// the front of whose bytes stands a request, or the answer that accepts. By nothing else that a host does a link comes up.
 pub fn ups_are_read()
-    ensures { (host after : HostState) (told : List Step) → IsNaming host → host_next host ≡ Ok (Some told, after) → AllUps (IsRaised host) told }
+    ensures next { (host after : HostState) (told : List Step) → IsNaming host → host_next host ≡ Ok (Some told, after) → AllUps (IsRaised host) told }
+    ensures on { (host after : HostState) (event : SocketEvent) (told : List Step) → host_on host event ≡ Ok (told, after) → AllUps (λ n. ⊥) told }
+    ensures connect { (host after : HostState) (end : ℕ) (peer : Address) (conn : ℕ) (told : List Step) → host_connect host end peer conn ≡ Ok (told, after) → AllUps (λ n. ⊥) told }
+    ensures send { (host after : HostState) (end conn : ℕ) (payload : List ℕ) (weight : Weight) (told : List Step) → host_send host end conn payload weight ≡ Ok (told, after) → AllUps (λ n. ⊥) told }
+    ensures close { (host after : HostState) (end conn : ℕ) (told : List Step) → host_close host end conn ≡ Ok (told, after) → AllUps (λ n. ⊥) told }
+    ensures close_endpoint { (host after : HostState) (end : ℕ) (told : List Step) → host_close_endpoint host end ≡ Ok (told, after) → AllUps (λ n. ⊥) told }
 {}
