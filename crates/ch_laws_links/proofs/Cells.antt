@@ -74,7 +74,7 @@ steps_append [] ys = refl
 steps_append (local.Step step ∷ xs) ys = ap (λ l. step ∷ l) (steps_append xs ys)
 steps_append (local.Note note ∷ xs) ys = steps_append xs ys
 
-steps_told : (done : List Step) → steps_in (told_steps done) ≡ done
+pub steps_told : (done : List Step) → steps_in (told_steps done) ≡ done
 steps_told [] = refl
 steps_told (step ∷ done) = ap (λ l. step ∷ l) (steps_told done)
 

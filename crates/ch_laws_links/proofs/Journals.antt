@@ -140,16 +140,16 @@ entry_first : (log : List Entry) (entry : Entry) (done : Answered) → Led Tells
 entry_first log entry (Ok done) l = subst (λ (all : List Entry). Tells all done.1) (append_assoc log (entry ∷ []) done.0.1) l
 entry_first log entry (Err stop) l = tt
 
-here_set : (place number : ℕ) (g : Option Standing → Option Standing) (now : ℕ → ℕ → Option Standing) (n : ℕ) (x : Option Standing) → now place n ≡ x → set_at place number g now place n ≡ cond (number == n) (g x) x
+pub here_set : (place number : ℕ) (g : Option Standing → Option Standing) (now : ℕ → ℕ → Option Standing) (n : ℕ) (x : Option Standing) → now place n ≡ x → set_at place number g now place n ≡ cond (number == n) (g x) x
 here_set place number g now n x e = ap (λ (y : Option Standing). cond ((place == place) && (number == n)) (g y) y) e ∙ ap (λ b. cond (b && (number == n)) (g x) x) (number_self place)
 
-there_set : (place number p n : ℕ) (g : Option Standing → Option Standing) (now : ℕ → ℕ → Option Standing) → (place == p) ≡ false → set_at place number g now p n ≡ now p n
+pub there_set : (place number p n : ℕ) (g : Option Standing → Option Standing) (now : ℕ → ℕ → Option Standing) → (place == p) ≡ false → set_at place number g now p n ≡ now p n
 there_set place number p n g now h = ap (λ b. cond (b && (number == n)) (g (now p n)) (now p n)) h
 
-opens_in_place : KeepsPlace opened
+pub opens_in_place : KeepsPlace opened
 opens_in_place end = (refl, refl, λ h. absurd cc)
 
-not_both : (stage : Stage) → is_pending stage ≡ true → is_ended stage ≡ true → ⊥
+pub not_both : (stage : Stage) → is_pending stage ≡ true → is_ended stage ≡ true → ⊥
 not_both Pending p e = absurd cc
 not_both Open p e = absurd cc
 not_both Ended p e = absurd cc
@@ -294,7 +294,7 @@ arrives_ended bytes end h = by_gone (is_ended end.stage || end.is_cut) where
   by_gone false = h
 
 -- an end that is fed is open, so it isn't closed
-fed_tells : (log : List Entry) (world : World) (socket : WorldSocket) (which : End) (count : ℕ) → IsIn socket world → is_open (end_of which socket).stage ≡ true → Tells log world
+pub fed_tells : (log : List Entry) (world : World) (socket : WorldSocket) (which : End) (count : ℕ) → IsIn socket world → is_open (end_of which socket).stage ≡ true → Tells log world
     → Tells (log ++ entries.Fed socket.name which (length (take count (end_of which socket).unread)) ∷ []) (with_end_of socket.name which (λ end. record end { unread = drop count end.unread }) world)
 fed_tells log world socket which count is stands t = subst (λ (cells : List (Cell × ℕ)). Agrees (now_of cells) (log ++ entries.Fed socket.name which (length (take count (end_of which socket).unread)) ∷ []) (with_end_of socket.name which f world).sockets) (sym (end_cells socket.name which f world))
     (fed_told (now_of world.cells) log (with_end_of socket.name which f world).sockets socket.name which (length (take count (end_of which socket).unread)) (by_closed (is_closed log socket.name which) refl)

@@ -293,7 +293,7 @@ step_told journal log place cell (steps.Post end event) world now g right a = su
 
 -- ---- all that followed
 
-note_quiet : (known : Names) (last : Option Place) (note : Note) → IsQuiet (note_entry known last note)
+pub note_quiet : (known : Names) (last : Option Place) (note : Note) → IsQuiet (note_entry known last note)
 note_quiet known last (notes.Made process origin) = tt
 note_quiet known last note = tt
 

@@ -69,7 +69,7 @@ end_led : (known : List Named) (e : End) (f : WorldEnd → WorldEnd) (old : Worl
 end_led known O f old k l = record { o = ap is_some (k old.o) ∙ l.o; t = l.t }
 end_led known T f old k l = record { o = l.o; t = λ d. ap is_some (k old.t) ∙ l.t d }
 
-led_end : (known : List Named) (s : SockName) (e : End) (f : WorldEnd → WorldEnd) (world : World) → KeepsCell f → AllLed known world.sockets → AllLed known (with_end_of s e f world).sockets
+pub led_end : (known : List Named) (s : SockName) (e : End) (f : WorldEnd → WorldEnd) (world : World) → KeepsCell f → AllLed known world.sockets → AllLed known (with_end_of s e f world).sockets
 led_end known s e f world k all = by_socket (find (is_socket_named s) world.sockets) refl where
   by_socket : (o : Option WorldSocket) → find (is_socket_named s) world.sockets ≡ o → AllLed known (elim o as (λ o. World) [
     | None ↦ world
@@ -87,7 +87,7 @@ pub record IsSet (known : List Named) (world : World) : Type 0 where
   pub numbered : Numbered world.sockets
   pub led : AllLed known world.sockets
 
-grown_set : (known : List Named) (one two : World) → IsSet known one → Grows one two → AllLed known two.sockets → IsSet known two
+pub grown_set : (known : List Named) (one two : World) → IsSet known one → Grows one two → AllLed known two.sockets → IsSet known two
 grown_set known one two i g led = record { names = g.names ∙ i.names; homed = homed_still one two known g.homes i.homed; numbered = g.numbered; led = led }
 
 -- ---- entries
@@ -149,7 +149,7 @@ one_led : (known : List Named) → AllNamed known → (place : ℕ) (cell : Cell
 one_led known named place cell (local.Note note) world i = i.led
 one_led known named place cell (local.Step step) world i = step_as (λ w. AllLed known w.sockets) (λ one two c s k. subst (AllLed known) (sym s) k) place cell step world (dial_led known named place cell step world i) (λ s e f c. led_end known s e f world (λ end. (c.changes.place end).0) i.led) i.led
 
-all_set : (known : List Named) → AllNamed known → (place : ℕ) (cell : Cell) (told : List LocalEntry) (world : World) → IsSet known world → AreCalm (all_told place cell told world).0 × IsSet known (all_told place cell told world).1
+pub all_set : (known : List Named) → AllNamed known → (place : ℕ) (cell : Cell) (told : List LocalEntry) (world : World) → IsSet known world → AreCalm (all_told place cell told world).0 × IsSet known (all_told place cell told world).1
 all_set known named place cell [] world i = (tt, i)
 all_set known named place cell (entry ∷ rest) world i =
     let next : IsSet known (local_told place cell entry world).1 = grown_set known world (local_told place cell entry world).1 i (told_all place cell (entry ∷ []) world i.numbered) (one_led known named place cell entry world i) in
@@ -203,7 +203,7 @@ opens_on : (end now : WorldEnd) → is_pending end.stage ≡ true → now.cell �
 opens_on end now pending c s = record { cell = c; stage = subst (λ (stage : Stage). stage_rank end.stage ≤ stage_rank stage) (sym s) (subst (λ (stage : Stage). stage_rank stage ≤ 1) (sym (pending_is end.stage pending)) (omega arith)) }
 
 -- a pending end of the socket is opened
-opened_set : (known : List Named) (which : End) (f : WorldEnd → WorldEnd) (socket : WorldSocket) (world : World) → IsSet known world → IsIn socket world → is_pending (end_of which socket).stage ≡ true → ((end : WorldEnd) → ((f end).cell ≡ end.cell) × ((f end).stage ≡ Open)) → IsSet known (with_end_of socket.name which f world)
+pub opened_set : (known : List Named) (which : End) (f : WorldEnd → WorldEnd) (socket : WorldSocket) (world : World) → IsSet known world → IsIn socket world → is_pending (end_of which socket).stage ≡ true → ((end : WorldEnd) → ((f end).cell ≡ end.cell) × ((f end).stage ≡ Open)) → IsSet known (with_end_of socket.name which f world)
 opened_set known which f socket world i is pending g = grown_set known world (with_end_of socket.name which f world) i (end_goes socket.name which f world i.numbered (λ found e. by_same found (one found e))) (led_end known socket.name which f world (λ end. (g end).0) i.led) where
   one : (found : WorldSocket) → find (is_socket_named socket.name) world.sockets ≡ Some found → socket ≡ found
   one found e = cc

@@ -46,7 +46,7 @@ place_set p xs i x y at same = ap (λ (n : ℕ). cond (nat_lt n (length (slice_s
 host_at : (a : Address) (c d : Cell × ℕ) → c.0.host.host ≡ d.0.host.host → c.0.host.port ≡ d.0.host.port → is_host_of a c ≡ is_host_of a d
 host_at a c d text port = ap (λ (z : List ℕ). bytes_eq z a.host && c.0.host.port == a.port) text ∙ ap (λ (z : ℕ). bytes_eq d.0.host.host a.host && z == a.port) port
 
-cell_stays : (w : World) (place : ℕ) (cell now : Cell × ℕ) (a : Address) → slice_get w.cells place ≡ Some cell → now.0.host.host ≡ cell.0.host.host → now.0.host.port ≡ cell.0.host.port → cell_of (with_cell place now w) a ≡ cell_of w a
+pub cell_stays : (w : World) (place : ℕ) (cell now : Cell × ℕ) (a : Address) → slice_get w.cells place ≡ Some cell → now.0.host.host ≡ cell.0.host.host → now.0.host.port ≡ cell.0.host.port → cell_of (with_cell place now w) a ≡ cell_of w a
 cell_stays w place cell now a there text port = place_set (is_host_of a) w.cells place cell now there (host_at a now cell text port)
 
 -- ---- moves after moves
@@ -87,7 +87,7 @@ port_end scene x cell (one ∷ rest) are = port_end (scene_after scene x cell on
 of_cells : (w v : World) → w.cells ≡ v.cells → hosts_of w ≡ hosts_of v
 of_cells w v same = ap (λ (z : List (Cell × ℕ)). λ (p : ℕ). host_in (slice_get z p)) same
 
-placed_same : (p : ℕ) (hosts : ℕ → HostState) → at_place p (hosts p) hosts ≡ hosts
+pub placed_same : (p : ℕ) (hosts : ℕ → HostState) → at_place p (hosts p) hosts ≡ hosts
 placed_same p hosts = fun_ext at where
   at : (q : ℕ) → at_place p (hosts p) hosts q ≡ hosts q
   at q = by_test (nat_eq q p) (λ h. ap (λ b. cond b (hosts p) (hosts q)) h ∙ ap hosts (same_place p q h)) (λ h. ap (λ b. cond b (hosts p) (hosts q)) h)

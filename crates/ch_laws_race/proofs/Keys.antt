@@ -56,7 +56,7 @@ other_link_found link end peer off (known ∷ rest) = by_test (is_link link.end 
 pub other_link : (link : Link) (host : HostState) (end : ℕ) (peer : AddressValue) → (link.end == end) ≡ false → link_with (with_link link host) end peer ≡ link_with host end peer
 other_link link host end peer off = ap (link_or_new end peer) (other_link_found link end peer off host.links)
 
-node_is : (a b : AddressValue) → same_node a b ≡ true → a ≡ b
+pub node_is : (a b : AddressValue) → same_node a b ≡ true → a ≡ b
 unfolding same_node
 node_is a b h =
     let parts = and_parts (bytes_eq a.host b.host) ((a.port == b.port) && (a.id == b.id)) h in

@@ -59,7 +59,7 @@ clash h = absurd (no h) where
   no : true ≡ false → ⊥
   no h = cc
 
-socket_numbered : (n : ℕ) (s : Socket) (xs : List Socket) → find (is_socket n) xs ≡ Some s → s.number ≡ n
+pub socket_numbered : (n : ℕ) (s : Socket) (xs : List Socket) → find (is_socket n) xs ≡ Some s → s.number ≡ n
 socket_numbered n s [] h = absurd (no h) where
   no : ◌≡◌ {A = Option Socket} None (Some s) → ⊥
   no q = cc
@@ -116,7 +116,7 @@ module _ (scene : Scene) (place : ℕ) where
     records = k.records;
   }
 
-  keeps_socket : (s : Socket) (now : HostState) → IsFree scene place s.number → KeepsPair scene place now → KeepsPair scene place (with_socket s now)
+  pub keeps_socket : (s : Socket) (now : HostState) → IsFree scene place s.number → KeepsPair scene place now → KeepsPair scene place (with_socket s now)
   keeps_socket s now free k = record {
     link = k.link;
     ends = k.ends;
@@ -144,7 +144,7 @@ module _ (scene : Scene) (place : ℕ) where
   flushed n [] free = tt
   flushed n (wait ∷ rest) free = (free, flushed n rest free)
 
-  leaves_stays : (n : ℕ) (h : HostState) → IsFree scene place n → KeepsPair scene place h → Stays (leaves n h)
+  pub leaves_stays : (n : ℕ) (h : HostState) → IsFree scene place n → KeepsPair scene place h → Stays (leaves n h)
   leaves_stays n h free k = ((free, tt), keeps_ended n h free k)
 
   crosses_stays : (n : ℕ) (a : Answer) (h : HostState) → IsFree scene place n → KeepsPair scene place h → Stays (answers_and_leaves n a h)
@@ -197,7 +197,7 @@ module _ (scene : Scene) (place : ℕ) where
     ack_in AwaitOther named = (tt, in_state AwaitOther)
 
     -- a frame of others is read on a socket of theirs
-    gone_stays : (s : Socket) → IsFree scene place s.number → Named l.state → Stays (gone_from s.number l h)
+    pub gone_stays : (s : Socket) → IsFree scene place s.number → Named l.state → Stays (gone_from s.number l h)
     gone_stays s free named = by (names l.state s.number) where
       by : (b : Bool) → Stays (if b then links.hears inputs.Gone l h else leaves s.number h)
       by true = gone_in l.state named
@@ -276,7 +276,7 @@ module _ (scene : Scene) (place : ℕ) where
   free_step c (steps.Broke end peer why) w f g = tt
   free_step c (steps.Post end event) w f g = tt
 
-  free_steps : (c : Cell) (done : List Step) (w : World) → AreFree done → ((m : ℕ) → IsFree scene place m → IsElsewhere scene.party (find_end place m w.sockets)) → AreElsewhere scene.party place c done w
+  pub free_steps : (c : Cell) (done : List Step) (w : World) → AreFree done → ((m : ℕ) → IsFree scene place m → IsElsewhere scene.party (find_end place m w.sockets)) → AreElsewhere scene.party place c done w
   free_steps c [] w f g = tt
   free_steps c (step ∷ rest) w f g = let here = free_step c step w f.0 g in
       (here, free_steps c rest (stepped place c step w).1 f.1 (λ m free. (shows_step scene.party place c step w here).third place m (g m free)))

@@ -56,7 +56,7 @@ pub record Shows (party : Side → Party) (xs ys : List WorldSocket) : Type 0 wh
   pub ends : (c m : ℕ) → list_any (has_end c m) xs ≡ true → list_any (has_end c m) ys ≡ true
   pub third : (c m : ℕ) → IsElsewhere party (find_end c m xs) → IsElsewhere party (find_end c m ys)
 
-shows_self : (party : Side → Party) (xs : List WorldSocket) → Shows party xs xs
+pub shows_self : (party : Side → Party) (xs : List WorldSocket) → Shows party xs xs
 shows_self party xs = record { socks = λ hosts j. refl; places = λ c m h. refl; ends = λ c m h. h; third = λ c m h. h }
 
 shows_more : (party : Side → Party) (xs ys zs : List WorldSocket) → Shows party xs ys → Shows party ys zs → Shows party xs zs

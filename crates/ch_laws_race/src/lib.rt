@@ -2,7 +2,7 @@
 //!
 //! No code: definitions of the view, and laws as clauses of empty functions. The whole model stands below, and the
 //! machine with its laws. Each event of a host is shown to be moves that may happen, apart, and so are happenings of the world
-//! after which no node is told anything and no whole item is left; that every line of a world is a run of moves is open.
+//! after which no node is told anything and no whole item is left. The laws of whole journals stand above.
 #![tactic(auto)]
 
 ghost use Rattle.std.specs.Prelude.{◌≡◌, ℕ, slice_get, Bool, true, false, List, [], ◌∷◌, length, find, Some, None, Ok};

@@ -1,0 +1,11 @@
+use Rattle.std.specs.Prelude.{◌+◌, take}
+use Rattle.ch_model.specs.Journal.{raw_lines, longest_journal, journal_of}
+use Rattle.ch_model.specs.LinesBuilt.{many_nodes}
+use Rattle.ch_laws_many.proofs.Declared.{names_apart}
+use Rattle.ch_laws_many.proofs.Journals.{is_journal}
+use Rattle.ch_laws_accounts.proofs.ReadAddresses.{all_addresses}
+use Rattle.ch_laws_accounts.proofs.Written.{writes_and_feeds}
+use Rattle.ch_laws_accounts.proofs.writes_and_feeds.Goals as goal
+
+pub returns : goal.returns
+returns c = λ bytes log is. writes_and_feeds (journal_of many_nodes bytes) (is_journal bytes) (names_apart (raw_lines (take (longest_journal + 1) bytes))) (all_addresses (raw_lines (take (longest_journal + 1) bytes))) log is

@@ -1,0 +1,3 @@
+pub mod Openers
+pub mod Written
+pub mod Ups

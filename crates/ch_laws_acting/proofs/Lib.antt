@@ -1,0 +1,10 @@
+pub mod Mails
+pub mod NodeRests
+pub mod CellRests
+pub mod ToldRests
+pub mod Uniques
+pub mod WorldRests
+pub mod LogRests
+pub mod Ends
+pub mod Sends
+pub mod Lines

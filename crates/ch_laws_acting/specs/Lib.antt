@@ -1,0 +1,3 @@
+pub mod Rolls
+pub mod Cells
+pub mod Logs

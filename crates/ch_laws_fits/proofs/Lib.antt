@@ -1,0 +1,17 @@
+pub mod Frames
+pub mod Ups
+pub mod Turns
+pub mod Ids
+pub mod Stores
+pub mod Calls
+pub mod Halves
+pub mod Items
+pub mod Events
+pub mod Sockets
+pub mod Ends
+pub mod Told
+pub mod Called
+pub mod Handed
+pub mod Kept
+pub mod Gives
+pub mod Accounts

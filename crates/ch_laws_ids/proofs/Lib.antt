@@ -1,0 +1,5 @@
+pub mod Hosts
+pub mod Worlds
+pub mod Asks
+pub mod Kept
+pub mod Logs

@@ -1,0 +1,11 @@
+pub mod Steps
+pub mod Accepts
+pub mod Entries
+pub mod Logs
+pub mod Nexts
+pub mod Tests
+pub mod Moments
+pub mod Seen
+pub mod Facts
+pub mod Fresh
+pub mod Kept

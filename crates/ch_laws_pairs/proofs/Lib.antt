@@ -1,0 +1,14 @@
+pub mod Asking
+pub mod AskingLinks
+pub mod AskingItems
+pub mod AskingEvents
+pub mod AskingCells
+pub mod Named
+pub mod Heard
+pub mod Lines
+pub mod Openers
+pub mod LinkedOpeners
+pub mod Scene
+pub mod Hosts
+pub mod Dials
+pub mod Many

@@ -1,0 +1,4 @@
+pub mod Askers
+pub mod Users
+pub mod Scenes
+pub mod Dials

@@ -1,0 +1,9 @@
+pub mod Plain
+pub mod None
+pub mod Absent
+pub mod Lines
+pub mod Openings
+pub mod Pairs
+pub mod Lawful
+pub mod InOrder
+pub mod Simply

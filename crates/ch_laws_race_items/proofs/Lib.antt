@@ -1,0 +1,11 @@
+pub mod Fronts
+pub mod Found
+pub mod Tables
+pub mod Seen
+pub mod Reading
+pub mod Requests
+pub mod Answers
+pub mod Frames
+pub mod Others
+pub mod Next
+pub mod Items

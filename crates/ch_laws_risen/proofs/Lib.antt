@@ -1,0 +1,12 @@
+pub mod Risings
+pub mod Logs
+pub mod Fronts
+pub mod Told
+pub mod Firsts
+pub mod Calls
+pub mod Opened
+pub mod Fed
+pub mod Accepts
+pub mod Accepted
+pub mod TargetFirst
+pub mod Kept

@@ -1,0 +1,16 @@
+pub mod Places
+pub mod Names
+pub mod Held
+pub mod Opened
+pub mod Given
+pub mod Peers
+pub mod Dialed
+pub mod Streams
+pub mod Facts
+pub mod Requests
+pub mod OtherAsked
+pub mod All
+pub mod Start
+pub mod Sides
+pub mod Journals
+pub mod Unknocked

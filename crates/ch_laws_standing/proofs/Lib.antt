@@ -1,0 +1,5 @@
+pub mod Makes
+pub mod Told
+pub mod Opened
+pub mod Fed
+pub mod Kept

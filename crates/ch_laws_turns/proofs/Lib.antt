@@ -1,0 +1,5 @@
+pub mod Together
+pub mod OfCalls
+pub mod Cells
+pub mod Happen
+pub mod Lines

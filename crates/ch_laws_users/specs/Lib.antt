@@ -1,0 +1,4 @@
+pub mod Records
+pub mod Carried
+pub mod Kept
+pub mod Scenes
