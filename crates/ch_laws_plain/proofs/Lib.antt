@@ -1,0 +1,16 @@
+pub mod Streams
+pub mod Adds
+pub mod Talks
+pub mod Heard
+pub mod Items
+pub mod Opens
+pub mod Speaks
+pub mod Acts
+pub mod Pending
+pub mod Ends
+pub mod Writes
+pub mod Asked
+pub mod Start
+pub mod Worlds
+pub mod Dials
+pub mod Alone
