@@ -1,0 +1,3 @@
+pub mod Words
+pub mod Says
+pub mod Reads
