@@ -1,3 +1,4 @@
 pub mod Words
 pub mod Says
 pub mod Reads
+pub mod Standing
