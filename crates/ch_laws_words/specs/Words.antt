@@ -74,7 +74,7 @@ opens_one journal said payload = list_any (λ (s : Saying). some_and (bytes_eq p
 -- the payload is the message of this saying, on a connection that was opened for its pair
 pub record Carries (journal : List Line) (opening : List ℕ) (word : Word) (s : Saying) : Type 0 where
   pub payload : word.0.1 ≡ payload_of s
-  pub opening : pair_opening journal s.by s.to ≡ Some opening
+  pub pair : pair_opening journal s.by s.to ≡ Some opening
   pub place : word.1 ≡ Some (record { epoch = s.epoch; index = s.index })
 
 -- A payload that is the first under its id is an opening of a pair that has said something; another carries what is said next.
