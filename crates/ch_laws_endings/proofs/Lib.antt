@@ -1,0 +1,3 @@
+pub mod NodeEnds
+pub mod CommandEnds
+pub mod CellEnds
