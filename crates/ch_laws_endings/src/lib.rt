@@ -42,3 +42,10 @@ pub fn cells_end_with_cause()
     ensures { (cell after : Cell) (event : LocalEvent) (verdict : Verdict) (told : List LocalEntry) → EndsNobody event → cell_step cell event ≡ Ok ((verdict, told), after) → AllCaused None told }
 {}
 
+/// In the log of a journal that the grammar of many nodes reads, each end of a process is by its line, which was done directly
+/// before, or of a process whose label its node hasn't, made directly before. So it is after any first lines of it.
+pub fn ends_have_causes()
+    ensures log { (bytes : List ℕ) (log : List Entry) → log_of (journal_of many_nodes bytes) ≡ Ok log → IsTrue (each (ends_with_cause (journal_of many_nodes bytes)) log) }
+    ensures fronts { (bytes : List ℕ) (front rest : List Line) → front ++ rest ≡ journal_of many_nodes bytes → (log : List Entry) (world : World) → log_from (world_new (journal_of many_nodes bytes)) front ≡ Ok (log, world)
+        → IsTrue (each (ends_with_cause (journal_of many_nodes bytes)) log) }
+{}
