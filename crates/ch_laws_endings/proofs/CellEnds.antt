@@ -1,8 +1,6 @@
 -- What follows an event at a cell, and the entries of it.
-use Rattle.std.proofs.Common.{◌≡◌, ℕ, zero, suc, Bool, true, false, cond, ◌&&◌, List, [], ◌∷◌, ◌++◌, map, Ok, Err, refl, sym, ap, ◌∙◌, subst}
-use Rattle.std.proofs.lemmas.Slice.Eq.{bytes_eq-Decides}
-use Rattle.std.specs.Option.{option_map}
-use Rattle.std.specs.Prelude.{find, Result, Option, Some, None, ◌==◌}
+use Rattle.std.proofs.Common.{ℕ, zero, suc, List, [], ◌∷◌, ◌++◌, Ok, Err}
+use Rattle.std.specs.Prelude.{find, Result, Option, Some, None}
 use Rattle.ch_base.specs.declared.event.Event.{Event}
 use Rattle.ch_base.specs.declared.memory.Stop.{Stop}
 use Rattle.ch_ident.specs.declared.identifier.ProcessId.{ProcessId}
@@ -164,7 +162,7 @@ answered_caused : (verdict : Verdict) (done : Followed) → FollowedCaused done 
 answered_caused verdict (Ok done) c = c
 answered_caused verdict (Err stop) c = tt
 
-pub host_caused : (verdict : Verdict) (cell : Cell) (done : Stepped) → CelledCaused (host_did verdict cell done)
+host_caused : (verdict : Verdict) (cell : Cell) (done : Stepped) → CelledCaused (host_did verdict cell done)
 host_caused verdict cell (Ok done) = answered_caused verdict (steps_on done.0 (record cell { host = done.1 }) then all_items) (then_caused (steps_on done.0 (record cell { host = done.1 })) all_items (all_steps_caused done.0 (record cell { host = done.1 })) all_caused)
 host_caused verdict cell (Err stop) = tt
 

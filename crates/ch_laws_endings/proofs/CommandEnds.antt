@@ -1,6 +1,6 @@
 -- What a node makes of a command: one by which a process ends tells that first.
-use Rattle.std.proofs.Common.{◌≡◌, ℕ, Bool, true, false, cond, List, [], ◌∷◌, ◌++◌, map, Ok, Err, refl}
-use Rattle.std.specs.Prelude.{Result, Option, Some, None, ok_or, option_to_list}
+use Rattle.std.proofs.Common.{◌≡◌, ℕ, Bool, true, false, cond, List, [], ◌∷◌, map, Ok, Err, refl}
+use Rattle.std.specs.Prelude.{Result, None, ok_or, option_to_list}
 use Rattle.ch_base.specs.declared.address.Address.{Address}
 use Rattle.ch_base.specs.declared.event.Room.{Room}
 use Rattle.ch_ident.specs.declared.identifier.ProcessId.{ProcessId}

@@ -1,6 +1,6 @@
 -- In the log of a journal of many nodes each end has its cause.
-use Rattle.std.proofs.Common.{◌≡◌, ℕ, Bool, true, false, not, ◌||◌, List, [], ◌∷◌, ◌++◌, Ok, Err, refl, sym, ap, ◌∙◌, subst}
-use Rattle.std.specs.Prelude.{Option, Some, None}
+use Rattle.std.proofs.Common.{◌≡◌, ℕ, Bool, true, false, ◌||◌, List, [], ◌∷◌, ◌++◌, Ok, Err, refl, sym, ap, ◌∙◌, subst}
+use Rattle.std.specs.Prelude.{Some, None}
 use Rattle.ch_model.specs.declared.entry.Entry.{Entry}
 use Rattle.ch_model.specs.declared.entry.Entry.TheVariants as entries
 use Rattle.ch_model.specs.declared.entry.Verdict.{Verdict}
@@ -9,7 +9,6 @@ use Rattle.ch_model.specs.declared.line.Line.{Line}
 use Rattle.ch_model.specs.declared.line.What.{What}
 use Rattle.ch_model.specs.declared.line.What.TheVariants as lines
 use Rattle.ch_model.specs.declared.name.ProcName.{ProcName}
-use Rattle.ch_model.specs.AnswersOwn.{is_own}
 use Rattle.ch_model.specs.Declarations.{gives_label, has_label}
 use Rattle.ch_model.specs.LifeRules.{ends_with_cause}
 use Rattle.ch_model.specs.Logs.{each_after}
@@ -30,7 +29,7 @@ use Rattle.ch_laws_log.proofs.Told.{fresh}
 use Rattle.ch_laws_many.specs.ManyLines.{is_of_many}
 use Rattle.ch_laws_many.proofs.Reached.{IsJournal}
 use Rattle.ch_laws_endings.proofs.EntryCauses.{both_hold, makes_last, Unlabelled, each_caused, own_caused}
-use Rattle.ch_laws_endings.proofs.WorldEnds.{makes_for, AreCaused, RestCaused, AnsweredCaused, AnsweredRest, IsCaused, line_caused}
+use Rattle.ch_laws_endings.proofs.WorldEnds.{makes_for, RestCaused, AnsweredCaused, AnsweredRest, IsCaused, line_caused}
 
 -- such a journal gives no labels
 none_labelled : (known : List Named) (journal : List Line) → AllLines (is_of_many known) journal → Unlabelled journal

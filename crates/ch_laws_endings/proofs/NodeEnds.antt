@@ -1,6 +1,6 @@
 -- What a node makes of an event tells no end but of a process just made for a spawn.
 use Rattle.std.proofs.Common.{◌≡◌, ℕ, Bool, true, false, cond, List, [], ◌∷◌, ◌++◌, map, Ok, Err, refl, sym, ap}
-use Rattle.std.specs.Prelude.{Result, Option, Some, None, find, is_some, ◌==◌, codes}
+use Rattle.std.specs.Prelude.{Result, Option, Some, None, find, is_some, ◌==◌}
 use Rattle.ch_base.specs.declared.address.Address.{Address}
 use Rattle.ch_base.specs.declared.event.Event.{Event}
 use Rattle.ch_base.specs.declared.event.Event.TheVariants.{ConnectionOpened, Received, ConnectionClosed, EndPointClosed, ConnectionLost}

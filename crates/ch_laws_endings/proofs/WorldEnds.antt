@@ -6,7 +6,6 @@ use Rattle.ch_ident.specs.declared.identifier.ProcessId.{ProcessId}
 use Rattle.ch_static.specs.declared.command.Command.TheVariants as commands
 use Rattle.ch_model.specs.declared.entry.Entry.{Entry}
 use Rattle.ch_model.specs.declared.entry.Entry.TheVariants as entries
-use Rattle.ch_model.specs.declared.entry.Verdict.{Verdict}
 use Rattle.ch_model.specs.declared.entry.Verdict.TheVariants as verdicts
 use Rattle.ch_model.specs.declared.line.What.{What}
 use Rattle.ch_model.specs.declared.line.What.TheVariants as lines
@@ -36,7 +35,7 @@ use Rattle.ch_model.specs.WorldSteps.{note_entry, on_end, reads_item, end_closes
 use Rattle.ch_laws_many.specs.ManyLines.{is_of_many}
 use Rattle.ch_laws_endings.specs.Causes.{spawned_by, HasCause}
 use Rattle.ch_laws_endings.specs.Told.{AllCaused}
-use Rattle.ch_laws_endings.proofs.CellEnds.{CelledCaused, cell_caused, host_caused, TellsRest, CelledRest, end_rest}
+use Rattle.ch_laws_endings.proofs.CellEnds.{CelledCaused, cell_caused, TellsRest, CelledRest, end_rest}
 
 -- ---- entries
 

@@ -1,7 +1,6 @@
 -- What is told at a cell of ends that no command asks for.
 use Rattle.std.specs.Prelude.{List, [], ◌∷◌, Option, None}
 use Rattle.ch_ident.specs.declared.identifier.ProcessId.{ProcessId}
-use Rattle.ch_static.specs.declared.command.Command.{Command}
 use Rattle.ch_static.specs.declared.command.Command.TheVariants as commands
 use Rattle.ch_model.specs.declared.local.LocalEntry.{LocalEntry}
 use Rattle.ch_model.specs.declared.local.LocalEntry.TheVariants as local

@@ -1,8 +1,4 @@
-use Rattle.std.proofs.Common.{◌≡◌, Ok, Err, ap, subst, refl}
-use Rattle.ch_model.specs.declared.entry.Verdict.{Verdict}
-use Rattle.ch_model.specs.declared.local.LocalEntry.{LocalEntry}
-use Rattle.ch_model.specs.Cell.{Celled, cell_step}
-use Rattle.ch_model.specs.WorldState.{Cell}
+use Rattle.std.proofs.Common.{subst}
 use Rattle.ch_laws_endings.proofs.CellEnds.{CelledCaused, cell_caused}
 use Rattle.ch_laws_endings.proofs.cells_end_with_cause.Goals as goal
 
