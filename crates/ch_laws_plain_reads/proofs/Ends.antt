@@ -114,7 +114,7 @@ asked_there host after socket request target peer f unused so none n known now k
 
   new : (socket.number == n) ≡ true → ReadThere socket (asking socket target peer) [] after
   new h = record { stood = not_over socket.stage f.stands; read = items.Request request ∷ []; are = (f.front, (refl, refl)); framed = refl; user = inr (unused, λ end p w. by_user end p (users_are (target, peer) (end, p) w)) } where
-    by_user : (end : ℕ) (p : Address) → (target, peer) ≡ (end, p) → (link_with after end p).created ≡ []
+    by_user : (end : ℕ) (p : Address) → ◌≡◌ {A = ℕ × Address} (target, peer) (end, p) → (link_with after end p).created ≡ []
     by_user end p w = subst (λ (u : ℕ × Address). (link_with after u.0 u.1).created ≡ []) w (here h)
 
   by_test : (b : Bool) → (socket.number == n) ≡ b → cond b (Some (asking socket target peer)) (find (is_socket n) (with_socket (taken socket) host).sockets) ≡ Some now → ReadThere known now [] after

@@ -1,5 +1,5 @@
 -- What a plain host does as it reads an item: what it posts, what it changes of the connections that have arrived, and what it has read at each end.
-use Rattle.std.specs.Prelude.{◌≡◌, ◌⊎◌, ℕ, cond, true, false, ◌==◌, List, [], ◌∷◌, find, Option, Some, None, Ok}
+use Rattle.std.specs.Prelude.{◌≡◌, ◌⊎◌, ℕ, Bool, cond, true, false, ◌==◌, List, [], ◌∷◌, find, Option, Some, None, Ok}
 use Rattle.ch_base.specs.declared.address.Address.{Address}
 use Rattle.ch_base.specs.declared.event.Event.{Event}
 use Rattle.ch_base.specs.declared.event.Event.TheVariants as events
