@@ -1,9 +1,8 @@
 -- What a link that has heard of something brings to a node: nothing, or that it has failed.
 use Rattle.std.proofs.Common.{◌≡◌, ◌⊎◌, inl, inr, ℕ, Bool, true, false, cond, List, [], ◌∷◌, Ok, Err, refl, sym, ap, ◌∙◌, subst}
-use Rattle.std.specs.Prelude.{find, Option, Some, None, Result, ◌==◌}
+use Rattle.std.specs.Prelude.{find, Option, Some, None, ◌==◌}
 use Rattle.ch_base.specs.declared.address.Address.{Address}
 use Rattle.ch_wire.specs.declared.frame.Frame.{Frame}
-use Rattle.ch_light.specs.declared.Connection.{Connection}
 use Rattle.ch_link.specs.Sockets.{names}
 use Rattle.ch_link.specs.declared.LinkIn.TheVariants as inputs
 use Rattle.ch_link.specs.declared.LinkState.{LinkState}
@@ -23,7 +22,7 @@ use Rattle.ch_laws_writes.specs.Orderly.{link_at}
 use Rattle.ch_laws_writes.proofs.Ordered.{is_key, at_key}
 use Rattle.ch_laws_fits.specs.Turns.{bytes_at}
 use Rattle.ch_laws_fits.proofs.Stores.{Stores}
-use Rattle.ch_laws_plain.specs.Talks.{LinkIsPlain, HostIsPlain}
+use Rattle.ch_laws_plain.specs.Talks.{LinkIsPlain}
 use Rattle.ch_laws_plain_reads.specs.Reading.{posts_in, AllReadThere, AreOfNone, Nothing, Loses, Brings}
 use Rattle.ch_laws_plain_reads.proofs.Ends.{AllReadSo, AllOf, all_there, but_over}
 use Rattle.ch_laws_plain_reads.proofs.Links.{Keeps, Fails, AllFail, heard_gone}

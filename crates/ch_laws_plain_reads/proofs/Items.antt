@@ -1,17 +1,13 @@
 -- What an item that a host reads brings, and what the end of a socket's input does.
-use Rattle.std.proofs.Common.{◌≡◌, ◌⊎◌, inl, inr, ℕ, ◌+◌, Bool, true, false, cond, List, [], ◌∷◌, drop, Ok, Err, refl, sym, ap, ◌∙◌, subst}
-use Rattle.std.proofs.lemmas.Bool.{and_parts}
+use Rattle.std.proofs.Common.{◌≡◌, ◌⊎◌, inl, inr, ℕ, ◌+◌, Bool, true, false, cond, List, [], ◌∷◌, Ok, Err, refl, sym, ap, ◌∙◌, subst}
 use Rattle.std.specs.Prelude.{find, Option, Some, None, Result, nat_lt, ◌==◌}
 use Rattle.ch_base.specs.declared.address.Address.{Address}
-use Rattle.ch_base.specs.declared.event.Event.{Event}
 use Rattle.ch_base.specs.declared.event.Event.TheVariants as events
-use Rattle.ch_base.specs.declared.memory.Stop.{Stop}
 use Rattle.ch_base.specs.declared.memory.Stop.TheVariants as stops
 use Rattle.ch_wire.specs.declared.answer.Answer.{Answer}
 use Rattle.ch_wire.specs.declared.frame.Frame.{Frame}
 use Rattle.ch_wire.specs.declared.frame.Frame.TheVariants as frames
 use Rattle.ch_wire.specs.declared.request.Request.{Request}
-use Rattle.ch_reader.specs.Reading.{reading}
 use Rattle.ch_reader.specs.declared.item.Expected.{Expected}
 use Rattle.ch_reader.specs.declared.item.Expected.TheVariants as expected
 use Rattle.ch_reader.specs.declared.item.Front.{Front}
@@ -23,19 +19,16 @@ use Rattle.ch_light.specs.declared.error.LightError.{LightError}
 use Rattle.ch_light.specs.Ids.{created_of, conn_of, closed_of}
 use Rattle.ch_link.specs.declared.LinkIn.{LinkIn}
 use Rattle.ch_link.specs.declared.LinkIn.TheVariants as inputs
-use Rattle.ch_link.specs.declared.LinkState.{LinkState}
 use Rattle.ch_link.specs.declared.LinkState.TheVariants as states
 use Rattle.ch_model.specs.declared.step.SocketEvent.TheVariants as sockets
-use Rattle.ch_model.specs.declared.step.Step.{Step}
 use Rattle.ch_model.specs.declared.step.Step.TheVariants as steps
-use Rattle.ch_model.specs.Host.{front_of, is_ready_front, first_ready, takes, handles, some_steps, host_on, host_next}
+use Rattle.ch_model.specs.Host.{front_of, is_ready_front, takes, handles, host_on}
 use Rattle.ch_model.specs.HostItems.{most_arrived, posts, is_gone, refusal_of, asks_link, reads_request, heard_answer, arrived_at, with_arrival, next_arrival, arrives, closes, receives, reads_frame, reads_on, reads}
 use Rattle.ch_model.specs.HostLinks.{hears}
 use Rattle.ch_model.specs.HostState.{Endpoint, Link, Socket, HostState}
 use Rattle.ch_model.specs.HostSteps.{Stepped, still, after_steps, is_endpoint, link_with, with_link, with_socket, with_endpoint, is_socket}
-use Rattle.ch_model.specs.HostWrites.{is_up, answers_and_leaves, end_socket}
+use Rattle.ch_model.specs.HostWrites.{answers_and_leaves, end_socket}
 use Rattle.ch_model.specs.Stages.{is_open, is_ended}
-use Rattle.ch_laws_items.proofs.Next.{served}
 use Rattle.ch_laws_links.specs.Naming.{IsNaming, IsDialedBy, IsUpFor}
 use Rattle.ch_laws_links.proofs.Keys.{ended_rest}
 use Rattle.ch_laws_links.proofs.Readings.{Matches, FrontMatches, reading_matches}
@@ -46,11 +39,11 @@ use Rattle.ch_laws_fits.proofs.Items.{Fronts}
 use Rattle.ch_laws_fits.proofs.Stores.{Stores, stored}
 use Rattle.ch_laws_plain.specs.Talks.{HostIsPlain}
 use Rattle.ch_laws_plain.proofs.Talks.{clash}
-use Rattle.ch_laws_plain_reads.specs.Reading.{posts_in, AllReadThere, IsOfNone, AreOfNone, Nothing, ReadOn, Brings}
+use Rattle.ch_laws_plain_reads.specs.Reading.{AllReadThere, AreOfNone, ReadOn, Brings}
 use Rattle.ch_laws_plain_reads.proofs.Brought.{own_key, kept_created, nothing_of, loses_of, AllLet, all_gone, lets_bring}
-use Rattle.ch_laws_plain_reads.proofs.Ends.{AllReadSo, AllOf, all_there, none_so, none_at_any, none_of, not_over, taken, asking, taken_so, taken_of_host, asked_there, none_at}
+use Rattle.ch_laws_plain_reads.proofs.Ends.{all_there, none_so, none_at_any, none_of, not_over, taken, asking, taken_so, taken_of_host, asked_there, none_at}
 use Rattle.ch_laws_plain_reads.proofs.Links.{Keeps, Fails, AllHear, AllAsk, IsHeard, heard, heard_asked}
-use Rattle.ch_laws_plain_reads.proofs.Sockets.{WereSo, same_so, ended_so, ended_over}
+use Rattle.ch_laws_plain_reads.proofs.Sockets.{WereSo, same_so, ended_so}
 
 -- ---- whatever was done
 

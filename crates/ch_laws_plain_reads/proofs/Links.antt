@@ -1,11 +1,9 @@
 -- What a link makes of what it hears: what it tells its node, what it keeps of the connections that have arrived, and which ends are over.
-use Rattle.std.proofs.Common.{◌≡◌, ◌⊎◌, inl, inr, ℕ, Bool, true, false, cond, List, [], ◌∷◌, map, Ok, Err, refl, sym, ap, ◌∙◌, subst}
-use Rattle.std.specs.Prelude.{find, Option, Some, None, ◌==◌}
-use Rattle.ch_base.specs.declared.address.Address.{Address}
+use Rattle.std.proofs.Common.{◌≡◌, ◌⊎◌, inl, inr, ℕ, Bool, true, false, List, [], ◌∷◌, map, Ok, Err, refl, sym, ap, ◌∙◌, subst}
+use Rattle.std.specs.Prelude.{find, Some}
 use Rattle.ch_base.specs.declared.event.Event.TheVariants as events
 use Rattle.ch_base.specs.declared.event.Why.{Why}
 use Rattle.ch_wire.specs.declared.frame.Frame.{Frame}
-use Rattle.ch_light.specs.declared.Connection.{Connection}
 use Rattle.ch_link.specs.Sockets.{names}
 use Rattle.ch_link.specs.Table.{step_of}
 use Rattle.ch_link.specs.declared.LinkAnswer.TheVariants as links

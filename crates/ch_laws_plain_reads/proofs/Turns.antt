@@ -1,5 +1,5 @@
 -- An item that a host reads, and the end of a socket's input: each brings one of these, and each end is still there.
-use Rattle.std.proofs.Common.{◌≡◌, ℕ, Bool, true, false, cond, ◌&&◌, List, [], ◌∷◌, Ok, Err, refl, sym, ap, ◌∙◌, subst}
+use Rattle.std.proofs.Common.{◌≡◌, ℕ, Bool, true, false, cond, List, [], Ok, Err, refl, sym, ap, subst}
 use Rattle.std.proofs.lemmas.Bool.{and_parts}
 use Rattle.std.specs.Prelude.{find, Option, Some, None, Result}
 use Rattle.ch_base.specs.declared.address.Address.{Address}
@@ -24,7 +24,7 @@ use Rattle.ch_laws_fits.proofs.Stores.{none_kind}
 use Rattle.ch_laws_plain.specs.Talks.{LinkIsPlain, HostIsPlain}
 use Rattle.ch_laws_plain.specs.Turns.{WriterPlain}
 use Rattle.ch_laws_plain_reads.specs.Reading.{HasStill, Brings, Reading}
-use Rattle.ch_laws_plain_reads.proofs.Brought.{Lets, AllLet, all_gone}
+use Rattle.ch_laws_plain_reads.proofs.Brought.{AllLet, all_gone}
 use Rattle.ch_laws_plain_reads.proofs.Items.{AllBring, handled, ended_brings}
 
 -- what is done of an item, where one is handled
