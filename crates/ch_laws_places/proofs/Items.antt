@@ -169,8 +169,8 @@ arrival_links end host = by_endpoint (find (is_endpoint end) host.ends) where
   by_endpoint None = refl
   by_endpoint (Some endpoint) = refl
 
-framed : (due : ℕ → Option Due) (socket : Socket) (user : ℕ × Address) (frame : Frame) (host : HostState) → Hears host → AllUndialed due (reads_frame socket (link_with host user.0 user.1) frame host)
-framed due socket user (frames.Created id) host h = by_created (created_of link.created id (next_arrival host link.end)) where
+frame_read : (due : ℕ → Option Due) (socket : Socket) (user : ℕ × Address) (frame : Frame) (host : HostState) → Hears host → AllUndialed due (reads_frame socket (link_with host user.0 user.1) frame host)
+frame_read due socket user (frames.Created id) host h = by_created (created_of link.created id (next_arrival host link.end)) where
   link : Link
   link = link_with host user.0 user.1
 
@@ -181,23 +181,23 @@ framed due socket user (frames.Created id) host h = by_created (created_of link.
   by_created : (r : Result (List Connection) LightError) → AllUndialed due (arrives socket link r host)
   by_created (Err x) = gone due socket host h
   by_created (Ok created) = by_test created (nat_lt (arrived_at host link.end) most_arrived)
-framed due socket user (frames.Closed id) host h = by_closed (closed_of link.created id) where
+frame_read due socket user (frames.Closed id) host h = by_closed (closed_of link.created id) where
   link : Link
   link = link_with host user.0 user.1
 
   by_closed : (r : Result (ℕ × List Connection) LightError) → AllUndialed due (closes socket link r host)
   by_closed (Err x) = gone due socket host h
   by_closed (Ok done) = record { placed = link_stored (record link { created = done.1 }) host.links (well host user h).placed h.placed; said = tt; alone = tt }
-framed due socket user (frames.Data id payload) host h = by_conn (conn_of link.created id) where
+frame_read due socket user (frames.Data id payload) host h = by_conn (conn_of link.created id) where
   link : Link
   link = link_with host user.0 user.1
 
   by_conn : (r : Result ℕ LightError) → AllUndialed due (receives socket link payload r host)
   by_conn (Err x) = gone due socket host h
   by_conn (Ok conn) = record { placed = h.placed; said = tt; alone = tt }
-framed due socket user frames.EndClosed host h = heard due inputs.EndClosed (link_with host user.0 user.1) host (well host user h) h.placed tt
-framed due socket user frames.Probe host h = heard due inputs.Probe (link_with host user.0 user.1) host (well host user h) h.placed tt
-framed due socket user frames.ProbeAck host h = heard due inputs.Ack (link_with host user.0 user.1) host (well host user h) h.placed tt
+frame_read due socket user frames.EndClosed host h = heard due inputs.EndClosed (link_with host user.0 user.1) host (well host user h) h.placed tt
+frame_read due socket user frames.Probe host h = heard due inputs.Probe (link_with host user.0 user.1) host (well host user h) h.placed tt
+frame_read due socket user frames.ProbeAck host h = heard due inputs.Ack (link_with host user.0 user.1) host (well host user h) h.placed tt
 
 -- the link of an answer's socket dials that one, if any
 answer_asks : (host : HostState) (socket : Socket) (user : ℕ × Address) → IsNaming host → Fronts host socket → socket.user ≡ Some user → (sock : ℕ) → (link_with host user.0 user.1).state ≡ states.Dialing sock → AsksNothing (due_at host sock)
@@ -227,11 +227,11 @@ item_read own host socket rest item s o p f = by_item item where
   by_item : (item : Item) → AllUndialed (due_at host) (reads (taken_of socket rest) item mid)
   by_item (items.Request request) = requested (due_at host) (taken_of socket rest) request mid h (asks_here host socket f)
   by_item (items.Answer answer) = by_user (items.Answer answer) (λ user u. heard (due_at host) (inputs.Answered (heard_answer answer)) (link_with host user.0 user.1) mid (well mid user h) h.placed (answer_asks host socket user s f u)) socket.user refl
-  by_item (items.Frame frame) = by_user (items.Frame frame) (λ user u. framed (due_at host) (taken_of socket rest) user frame mid h) socket.user refl
+  by_item (items.Frame frame) = by_user (items.Frame frame) (λ user u. frame_read (due_at host) (taken_of socket rest) user frame mid h) socket.user refl
 
 -- that it is read is told before
 read_first : (due : ℕ → Option Due) (sock : ℕ) (done : Stepped) → AllUndialed due done → AllUndialed due (after_steps (steps.Read sock ∷ []) done)
-read_first due sock (Ok done) s = s
+read_first due sock (Ok done) s = record { placed = s.placed; said = s.said; alone = s.alone }
 read_first due sock (Err stop) s = tt
 
 handled : (own : ℕ → Address) (host : HostState) (socket : Socket) → IsNaming host → IsOrderly own host → HostPlaced host → Fronts host socket → AllUndialed (due_at host) (handles socket (front_of socket) host)

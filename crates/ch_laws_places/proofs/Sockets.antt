@@ -1,5 +1,5 @@
 -- What steps of a cell's host do to the places at the ends of the world's sockets: each item that is written brings one, and each that is read takes one.
-use Rattle.std.proofs.Common.{◌≡◌, ◌⊎◌, inl, inr, ℕ, zero, suc, ◌+◌, Bool, true, false, cond, ◌&&◌, ◌||◌, List, [], ◌∷◌, ◌++◌, length, refl, sym, ap, ◌∙◌, subst, append_assoc}
+use Rattle.std.proofs.Common.{◌≡◌, ◌⊎◌, inl, inr, ℕ, zero, suc, ◌+◌, Bool, true, false, cond, ◌&&◌, ◌||◌, List, [], ◌∷◌, ◌++◌, length, refl, sym, ap, ◌∙◌, subst, append_assoc, arith}
 use Rattle.std.proofs.lemmas.Grind.{flat_map-append}
 use Rattle.std.proofs.lemmas.List.{append-nil, map-append}
 use Rattle.std.specs.Prelude.{find, Option, Some, None, ◌==◌}
@@ -103,9 +103,9 @@ blind_reads place step (Some p) None s = refl
 blind_reads place step (Some p) (Some n) s = nothing_for (p == place) (reads_of n (step ∷ [])) 0 (s n)
 
 -- a step at an end of this number, of some end
-at_number : {A : Type 0} (place sock : ℕ) (f : Bool → A) (zero : A) (end : WorldEnd) → f false ≡ zero → (by_end : Option ℕ → Option ℕ → A) → ((m : Option ℕ) → by_end None m ≡ zero) → ((p : ℕ) → by_end (Some p) None ≡ zero) → ((p n : ℕ) → by_end (Some p) (Some n) ≡ cond (p == place) (f (sock == n)) zero)
+at_number : {A : Type 0} (place sock : ℕ) (f : Bool → A) (nil : A) (end : WorldEnd) → f false ≡ nil → (by_end : Option ℕ → Option ℕ → A) → ((m : Option ℕ) → by_end None m ≡ nil) → ((p : ℕ) → by_end (Some p) None ≡ nil) → ((p n : ℕ) → by_end (Some p) (Some n) ≡ cond (p == place) (f (sock == n)) nil)
     → by_end end.cell end.number ≡ f (is_end_of place sock end)
-at_number place sock f zero end none by_end no_cell no_number both = by_parts end.cell end.number where
+at_number place sock f nil end none by_end no_cell no_number both = by_parts end.cell end.number where
   by_parts : (c m : Option ℕ) → by_end c m ≡ f (same_number c place && same_number m sock)
   by_parts None m = no_cell m ∙ sym none
   by_parts (Some p) None = no_number p ∙ sym none ∙ ap f (sym (by_test (p == place))) where
@@ -113,7 +113,7 @@ at_number place sock f zero end none by_end no_cell no_number both = by_parts en
     by_test true = refl
     by_test false = refl
   by_parts (Some p) (Some n) = both p n ∙ by_test (p == place) where
-    by_test : (b : Bool) → cond b (f (sock == n)) zero ≡ f (b && (n == sock))
+    by_test : (b : Bool) → cond b (f (sock == n)) nil ≡ f (b && (n == sock))
     by_test true = ap f (flip sock n)
     by_test false = sym none
 
@@ -146,12 +146,12 @@ none_taken (x ∷ l) count e z = let no : length (x ∷ l) ≡ 0 = e ∙ z in ab
 
 -- nothing comes to it, and nothing is taken
 end_rests : (gone : ℕ) (pieces : List Piece) (end : WorldEnd) → gone ≡ 0 → pieces ≡ [] → EndGoes gone pieces end end
-end_rests gone pieces end zero none = record {
+end_rests gone pieces end untaken none = record {
   cell = refl;
   number = refl;
   lives = λ h. h;
   unread = λ h. sym (ap (λ (l : List Piece). end.unread ++ bytes_in l) none ∙ append-nil end.unread);
-  places = λ h taken rest is many. is ∙ ap (λ (l : List (Option Place)). l ++ rest) (none_taken taken gone many zero) ∙ sym (ap (λ (l : List Piece). rest ++ places_in l) none ∙ append-nil rest);
+  places = λ h taken rest is many. is ∙ ap (λ (l : List (Option Place)). l ++ rest) (none_taken taken gone many untaken) ∙ sym (ap (λ (l : List Piece). rest ++ places_in l) none ∙ append-nil rest);
 }
 
 end_ends : (gone : ℕ) (pieces : List Piece) (end : WorldEnd) → EndGoes gone pieces end (ended end)
@@ -159,7 +159,7 @@ end_ends gone pieces end = record { cell = refl; number = refl; lives = λ h. ab
 
 -- one piece comes to it
 end_gets : (gone : ℕ) (pieces : List Piece) (bytes : List ℕ) (said : Option Place) (end : WorldEnd) → gone ≡ 0 → pieces ≡ (bytes, said) ∷ [] → EndGoes gone pieces end (item_arrives bytes said end)
-end_gets gone pieces bytes said end zero is = by_over (is_over end) refl where
+end_gets gone pieces bytes said end untaken is = by_over (is_over end) refl where
   arrived : Bool → WorldEnd
   arrived b = cond b end (record end { unread = end.unread ++ bytes; places = end.places ++ said ∷ [] })
 
@@ -170,7 +170,7 @@ end_gets gone pieces bytes said end zero is = by_over (is_over end) refl where
     number = refl;
     lives = λ h. h;
     unread = λ h. ap (λ (l : List ℕ). end.unread ++ l) (sym (ap bytes_in is ∙ append-nil bytes));
-    places = λ h taken rest e many. ap (λ (l : List (Option Place)). l ++ said ∷ []) (e ∙ ap (λ (l : List (Option Place)). l ++ rest) (none_taken taken gone many zero)) ∙ sym (ap (λ (l : List Piece). rest ++ places_in l) is);
+    places = λ h taken rest e many. ap (λ (l : List (Option Place)). l ++ said ∷ []) (e ∙ ap (λ (l : List (Option Place)). l ++ rest) (none_taken taken gone many untaken)) ∙ sym (ap (λ (l : List Piece). rest ++ places_in l) is);
   }
 
 -- one place is taken from it
@@ -195,12 +195,19 @@ record Cut (taken : List (Option Place)) (one two : ℕ) : Type 0 where
   first : length front ≡ one
   second : length back ≡ two
 
+none_fewer : {A : Type 0} (one two : ℕ) → 0 ≡ suc one + two → A
+none_fewer one two e = absurd (never one two e) where
+  never : (a b : ℕ) → 0 ≡ suc a + b → ⊥
+  never a b e = omega arith
+
 cut_at : (one two : ℕ) (taken : List (Option Place)) → length taken ≡ one + two → Cut taken one two
-cut_at zero two taken many = record { front = []; back = taken; is = refl; first = refl; second = many }
-cut_at (suc one) two [] many = absurd cc
-cut_at (suc one) two (x ∷ l) many = let c = cut_at one two l (fewer (length l) (one + two) many) in record { front = x ∷ c.front; back = c.back; is = ap (λ (m : List (Option Place)). x ∷ m) c.is; first = ap suc c.first; second = c.second } where
-  fewer : (a b : ℕ) → suc a ≡ suc b → a ≡ b
-  fewer a b e = cc
+cut_at zero two taken many = record { front = []; back = taken; is = refl; first = refl; second = many ∙ alone two } where
+  alone : (n : ℕ) → 0 + n ≡ n
+  alone n = omega arith
+cut_at (suc one) two [] many = none_fewer one two many
+cut_at (suc one) two (x ∷ l) many = let c = cut_at one two l (fewer (length l) one two many) in record { front = x ∷ c.front; back = c.back; is = ap (λ (m : List (Option Place)). x ∷ m) c.is; first = ap suc c.first; second = c.second } where
+  fewer : (a b c : ℕ) → suc a ≡ suc b + c → a ≡ b + c
+  fewer a b c e = omega arith
 
 -- one after another
 end_onward : (one two both : ℕ) (xs ys zs : List Piece) (a b c : WorldEnd) → both ≡ one + two → zs ≡ xs ++ ys → EndGoes one xs a b → EndGoes two ys b c → EndGoes both zs a c
@@ -429,7 +436,7 @@ told_goes journal place cell (step ∷ rest) log world g each n s socket found =
 
 -- an end that hasn't ended is opened
 end_opens : (gone : ℕ) (pieces : List Piece) (end : WorldEnd) → gone ≡ 0 → pieces ≡ [] → is_ended end.stage ≡ false → EndGoes gone pieces end (opened end)
-end_opens gone pieces end zero none live = let rests = end_rests gone pieces end zero none in record { cell = refl; number = refl; lives = λ h. ap (λ b. b || end.is_cut) live ∙ h; unread = λ h. rests.unread (ap (λ b. b || end.is_cut) live ∙ h); places = λ h. rests.places (ap (λ b. b || end.is_cut) live ∙ h) }
+end_opens gone pieces end untaken none live = let rests = end_rests gone pieces end untaken none in record { cell = refl; number = refl; lives = λ h. ap (λ b. b || end.is_cut) live ∙ h; unread = λ h. rests.unread (ap (λ b. b || end.is_cut) live ∙ h); places = λ h. rests.places (ap (λ b. b || end.is_cut) live ∙ h) }
 
 pub opened_goes : (place : ℕ) (s : SockName) (e : End) (world : World) → ((old : WorldSocket) → find (is_socket_named s) world.sockets ≡ Some old → is_ended (end_of e old).stage ≡ false) → AllWere place [] world (with_end_of s e opened world)
 opened_goes place s e world live = all_changed place [] s e opened world
@@ -443,8 +450,11 @@ none_first_goes place told a b c p q = record { name = q.name ∙ p.name; ends =
   same_end_for : {A : Type 0} (f : Option ℕ → Option ℕ → A) (e : End) → f (end_of e b).cell (end_of e b).number ≡ f (end_of e a).cell (end_of e a).number
   same_end_for f e = ap (λ (c : Option ℕ). f c (end_of e b).number) (p.ends e).cell ∙ ap (f (end_of e a).cell) (p.ends e).number
 
+  alone : (n : ℕ) → n ≡ 0 + n
+  alone n = omega arith
+
   reads : (e : End) → reads_at_end place told (end_of e a) ≡ reads_at_end place [] (end_of e a) + reads_at_end place told (end_of e b)
-  reads e = sym (same_end_for (reads_for place told) e) ∙ ap (λ (n : ℕ). n + reads_at_end place told (end_of e b)) (sym (untold_reads place (end_of e a).cell (end_of e a).number))
+  reads e = sym (same_end_for (reads_for place told) e) ∙ alone (reads_at_end place told (end_of e b)) ∙ ap (λ (n : ℕ). n + reads_at_end place told (end_of e b)) (sym (untold_reads place (end_of e a).cell (end_of e a).number))
 
   pieces : (e : End) → pieces_of place told (end_of (other e) a) ≡ pieces_of place [] (end_of (other e) a) ++ pieces_of place told (end_of (other e) b)
   pieces e = sym (same_end_for (pieces_for place told) (other e)) ∙ ap (λ (l : List Piece). l ++ pieces_of place told (end_of (other e) b)) (sym (untold_pieces place (end_of (other e) a).cell (end_of (other e) a).number))

@@ -63,7 +63,7 @@ pub waits_last : (waits : List (Frame × Weight)) (wait : Frame × Weight) → W
 waits_last [] wait w s = (s, tt)
 waits_last (one ∷ rest) wait w s = (w.0, waits_last rest wait w.1 s)
 
-over_placed : (sock : ℕ) (host : HostState) → HostPlaced host → HostPlaced (end_socket sock host)
+pub over_placed : (sock : ℕ) (host : HostState) → HostPlaced host → HostPlaced (end_socket sock host)
 over_placed sock host p = subst LinksPlaced (sym (ended_rest sock host).0) p
 
 -- ---- what is written
