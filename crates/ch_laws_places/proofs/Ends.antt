@@ -19,7 +19,7 @@ use Rattle.ch_laws_bytes.proofs.Lines.{own_of}
 use Rattle.ch_laws_bytes.proofs.Reading.{flows_after}
 use Rattle.ch_laws_bytes.proofs.Sockets.{flip}
 use Rattle.ch_laws_log.proofs.Stored.{number_is}
-use Rattle.ch_laws_reads.specs.Reads.{AreRead, AreReadOf, IsKept, GoesOn, Reads, reads_of}
+use Rattle.ch_laws_reads.specs.Reads.{AreRead, AreReadOf, IsKept, Reads, reads_of}
 use Rattle.ch_laws_reads.proofs.Stays.{read_of_spelled}
 use Rattle.ch_laws_writes.specs.Dues.{Due, Asking, Answering, Framing, due_at}
 use Rattle.ch_laws_fits.specs.Turns.{IsKind}

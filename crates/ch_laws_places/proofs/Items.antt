@@ -27,11 +27,11 @@ use Rattle.ch_model.specs.declared.step.SocketEvent.TheVariants as sockets
 use Rattle.ch_model.specs.declared.step.Step.{Step}
 use Rattle.ch_model.specs.declared.step.Step.TheVariants as steps
 use Rattle.ch_model.specs.Host.{joins, host_on, front_of, is_ready_front, first_ready, takes, handles, some_steps, host_next}
-use Rattle.ch_model.specs.HostItems.{most_arrived, posts, gone_from, is_gone, refusal_of, asks_link, reads_request, heard_answer, arrived_at, with_arrival, next_arrival, arrives, closes, receives, reads_frame, reads_on, reads_other, reads}
+use Rattle.ch_model.specs.HostItems.{most_arrived, posts, gone_from, is_gone, refusal_of, asks_link, reads_request, heard_answer, arrived_at, with_arrival, next_arrival, arrives, closes, receives, reads_frame, reads_on, reads}
 use Rattle.ch_model.specs.HostLinks.{hears}
 use Rattle.ch_model.specs.HostState.{Endpoint, Link, Socket, HostState}
 use Rattle.ch_model.specs.HostSteps.{Stepped, still, after_steps, is_endpoint, own_address, link_with, with_link, with_socket, with_endpoint, is_socket}
-use Rattle.ch_model.specs.HostWrites.{writes, leaves, answers_and_leaves, end_socket}
+use Rattle.ch_model.specs.HostWrites.{writes, leaves, answers_and_leaves}
 use Rattle.ch_model.specs.Stages.{Stage, Pending, Open, Ended, is_pending, is_open, is_ended}
 use Rattle.ch_laws_bytes.specs.Streams.{AsksNothing}
 use Rattle.ch_laws_items.proofs.Next.{served}

@@ -285,7 +285,7 @@ dial_rests place sock end peer socket = quiet_rests place (steps.Dial sock end p
 quiet_ends : (place : ℕ) (step : Step) (s : SockName) (e : End) (world : World) → IsSilent step → IsBlind step → AllWere place (step ∷ []) world (with_end_of s e ended world)
 quiet_ends place step s e world silent blind = all_changed place (step ∷ []) s e ended world
     (λ old is. with_one place (step ∷ []) e (ended (end_of e old)) old (end_ends (reads_at_end place (step ∷ []) (end_of e old)) (pieces_of place (step ∷ []) (end_of (other e) old)) (end_of e old))
-        (end_rests (reads_at_end place (step ∷ []) (end_of (other e) old)) (pieces_of place (step ∷ []) (end_of e old)) (end_of (other e) old) (blind_reads place step (end_of (other e) old).cell (end_of (other e) old).number blind) (silent_pieces place step (end_of e old).cell (end_of e old).number silent)))
+    (end_rests (reads_at_end place (step ∷ []) (end_of (other e) old)) (pieces_of place (step ∷ []) (end_of e old)) (end_of (other e) old) (blind_reads place step (end_of (other e) old).cell (end_of (other e) old).number blind) (silent_pieces place step (end_of e old).cell (end_of e old).number silent)))
     (λ t socket off found. quiet_rests place step socket silent blind)
 
 -- ---- one step
@@ -300,8 +300,11 @@ on_by x y false e = absurd cc
 
 -- a step at an end of the cell that isn't this socket's
 write_rests : (place sock : ℕ) (bytes : List ℕ) (said : Option Place) (socket : WorldSocket) → ((e : End) → is_end_of place sock (end_of e socket) ≡ false) → SocketGoes place (steps.Write sock bytes said ∷ []) socket socket
-write_rests place sock bytes said socket off = record { name = refl; ends = λ e. end_rests (reads_at_end place (steps.Write sock bytes said ∷ []) (end_of e socket)) (pieces_of place (steps.Write sock bytes said ∷ []) (end_of (other e) socket)) (end_of e socket) (blind_reads place (steps.Write sock bytes said) (end_of e socket).cell (end_of e socket).number (λ n. refl))
-    (write_pieces place sock bytes said (end_of (other e) socket) ∙ off_by ((bytes, said) ∷ []) [] (is_end_of place sock (end_of (other e) socket)) (off (other e))) }
+write_rests place sock bytes said socket off = record {
+  name = refl;
+  ends = λ e. end_rests (reads_at_end place (steps.Write sock bytes said ∷ []) (end_of e socket)) (pieces_of place (steps.Write sock bytes said ∷ []) (end_of (other e) socket)) (end_of e socket) (blind_reads place (steps.Write sock bytes said) (end_of e socket).cell (end_of e socket).number (λ n. refl))
+      (write_pieces place sock bytes said (end_of (other e) socket) ∙ off_by ((bytes, said) ∷ []) [] (is_end_of place sock (end_of (other e) socket)) (off (other e)));
+}
 
 read_rests : (place sock : ℕ) (socket : WorldSocket) → ((e : End) → is_end_of place sock (end_of e socket) ≡ false) → SocketGoes place (steps.Read sock ∷ []) socket socket
 read_rests place sock socket off = record { name = refl; ends = λ e. end_rests (reads_at_end place (steps.Read sock ∷ []) (end_of e socket)) (pieces_of place (steps.Read sock ∷ []) (end_of (other e) socket)) (end_of e socket) (read_count place sock (end_of e socket) ∙ off_by 1 0 (is_end_of place sock (end_of e socket)) (off e)) (silent_pieces place (steps.Read sock) (end_of (other e) socket).cell (end_of (other e) socket).number (λ n. refl)) }
@@ -343,9 +346,9 @@ written place sock bytes said at world apart each is = all_changed place (steps.
       let own : is_end_of place sock (end_of at.1 old) ≡ true = found_is place sock world.sockets at old apart is found in
       with_one place told (other at.1) (item_arrives bytes said (end_of (other at.1) old)) old
       (end_gets (reads_at_end place told (end_of (other at.1) old)) (pieces_of place told (end_of (other (other at.1)) old)) bytes said (end_of (other at.1) old) (blind (end_of (other at.1) old))
-          (ap (λ (e : End). pieces_of place told (end_of e old)) (twice at.1) ∙ write_pieces place sock bytes said (end_of at.1 old) ∙ on_by ((bytes, said) ∷ []) [] (is_end_of place sock (end_of at.1 old)) own))
+      (ap (λ (e : End). pieces_of place told (end_of e old)) (twice at.1) ∙ write_pieces place sock bytes said (end_of at.1 old) ∙ on_by ((bytes, said) ∷ []) [] (is_end_of place sock (end_of at.1 old)) own))
       (end_rests (reads_at_end place told (end_of (other (other at.1)) old)) (pieces_of place told (end_of (other at.1) old)) (end_of (other (other at.1)) old) (blind (end_of (other (other at.1)) old))
-          (write_pieces place sock bytes said (end_of (other at.1) old) ∙ off_by ((bytes, said) ∷ []) [] (is_end_of place sock (end_of (other at.1) old)) (other_end_there place sock world.sockets at old (other at.1) each is found (not_same at.1))))
+      (write_pieces place sock bytes said (end_of (other at.1) old) ∙ off_by ((bytes, said) ∷ []) [] (is_end_of place sock (end_of (other at.1) old)) (other_end_there place sock world.sockets at old (other at.1) each is found (not_same at.1))))
 
 item_read : (place sock : ℕ) (at : SockName × End) (world : World) → Distinct world.sockets → EachFound world.sockets → find_end place sock world.sockets ≡ Some at → AllWere place (steps.Read sock ∷ []) world (with_end_of at.0 at.1 (λ end. record end { places = later_places end.places }) world)
 item_read place sock at world apart each is = all_changed place (steps.Read sock ∷ []) at.0 at.1 (λ end. record end { places = later_places end.places }) world mine (λ t socket off found. read_rests place sock socket (off_others place sock at world each is t socket off found)) where
@@ -441,7 +444,7 @@ end_opens gone pieces end untaken none live = let rests = end_rests gone pieces 
 pub opened_goes : (place : ℕ) (s : SockName) (e : End) (world : World) → ((old : WorldSocket) → find (is_socket_named s) world.sockets ≡ Some old → is_ended (end_of e old).stage ≡ false) → AllWere place [] world (with_end_of s e opened world)
 opened_goes place s e world live = all_changed place [] s e opened world
     (λ old is. with_one place [] e (opened (end_of e old)) old (end_opens (reads_at_end place [] (end_of e old)) (pieces_of place [] (end_of (other e) old)) (end_of e old) (untold_reads place (end_of e old).cell (end_of e old).number) (untold_pieces place (end_of (other e) old).cell (end_of (other e) old).number) (live old is))
-        (end_rests (reads_at_end place [] (end_of (other e) old)) (pieces_of place [] (end_of e old)) (end_of (other e) old) (untold_reads place (end_of (other e) old).cell (end_of (other e) old).number) (untold_pieces place (end_of e old).cell (end_of e old).number)))
+    (end_rests (reads_at_end place [] (end_of (other e) old)) (pieces_of place [] (end_of e old)) (end_of (other e) old) (untold_reads place (end_of (other e) old).cell (end_of (other e) old).number) (untold_pieces place (end_of e old).cell (end_of e old).number)))
     (λ t socket off found. record { name = refl; ends = untold place socket })
 
 -- where nothing was told yet, what is told then is all

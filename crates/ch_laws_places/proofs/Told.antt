@@ -1,5 +1,5 @@
 -- After a call of a host, with all its steps, the places at each end of each socket stand by their items.
-use Rattle.std.proofs.Common.{◌≡◌, ◌⊎◌, inl, inr, ℕ, Bool, true, false, cond, List, [], ◌∷◌, ◌++◌, Ok, refl, sym, ap, ◌∙◌, subst}
+use Rattle.std.proofs.Common.{◌≡◌, ◌⊎◌, inl, inr, ℕ, Bool, true, false, cond, List, [], ◌∷◌, ◌++◌, refl, sym, ap, ◌∙◌, subst}
 use Rattle.std.specs.Option.{option_map}
 use Rattle.std.specs.Prelude.{find, slice_get, slice_set, Option, Some, None}
 use Rattle.ch_base.specs.declared.address.Address.{Address}
@@ -10,7 +10,6 @@ use Rattle.ch_model.specs.declared.line.Line.{Line}
 use Rattle.ch_model.specs.declared.name.End.{End}
 use Rattle.ch_model.specs.declared.name.End.TheVariants.{O, T}
 use Rattle.ch_model.specs.declared.name.SockName.{SockName}
-use Rattle.ch_model.specs.declared.step.Place.{Place}
 use Rattle.ch_model.specs.declared.step.Step.{Step}
 use Rattle.ch_model.specs.declared.step.Step.TheVariants as steps
 use Rattle.ch_model.specs.CellSteps.{told_steps}
@@ -33,7 +32,7 @@ use Rattle.ch_laws_ends.proofs.Places.{got_same, set_split}
 use Rattle.ch_laws_ends.proofs.Told.{Sure}
 use Rattle.ch_laws_log.specs.HostEnds.{stage_at, AreNewTo}
 use Rattle.ch_laws_log.proofs.Stored.{number_same, find_stored}
-use Rattle.ch_laws_reads.specs.Reads.{IsFresh, Reads}
+use Rattle.ch_laws_reads.specs.Reads.{IsFresh}
 use Rattle.ch_laws_fits.specs.Fit.{MayAskWell}
 use Rattle.ch_laws_fits.specs.Turns.{NoDials, DialsAlone}
 use Rattle.ch_laws_fits.proofs.Ends.{own_by, FlowsThere, flows_there}

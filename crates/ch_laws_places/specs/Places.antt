@@ -89,15 +89,19 @@ pub record TakesPlace (item : Item) (places : List (Option Place)) (last : Optio
   pub first : places ≡ last ∷ rest
   pub stands : StandsBy item last
 
--- This item stands next at an end of a socket of the world: at the end of the cell at a place, under a number, that isn't over.
+-- This item stands whole at the front of the bytes of the host's socket of this number, which hasn't ended.
+pub record StandsNext (host : HostState) (n : ℕ) (item : Item) : Type 0 where
+  pub known : Socket
+  pub found : find (is_socket n) host.sockets ≡ Some known
+  pub live : is_ended known.stage ≡ false
+  pub front : (reading known.expected known.since).0 ≡ Whole item
+
+-- It is next at an end of a socket of the world: at the end of the cell at a place, under this number, that isn't over.
 pub record IsNext (journal : List Line) (world : World) (place n : ℕ) (socket : WorldSocket) (e : End) (item : Item) : Type 0 where
   pub cell : Cell × ℕ
-  pub known : Socket
   pub at : slice_get world.cells place ≡ Some cell
-  pub found : find (is_socket n) cell.0.host.sockets ≡ Some known
-  pub stands : is_ended known.stage ≡ false
-  pub front : (reading known.expected known.since).0 ≡ Whole item
+  pub next : StandsNext cell.0.host n item
   pub is : find (is_socket_named socket.name) world.sockets ≡ Some socket
   pub held : IsHeldBy place n (end_of e socket)
-  pub live : is_over (end_of e socket) ≡ false
+  pub goes : is_over (end_of e socket) ≡ false
   pub may : MayAskWell journal world socket
