@@ -1,0 +1,11 @@
+pub mod Waits
+pub mod Calls
+pub mod Items
+pub mod Writes
+pub mod Sockets
+pub mod Ends
+pub mod Told
+pub mod Called
+pub mod Handed
+pub mod Kept
+pub mod Last
