@@ -1,7 +1,7 @@
 -- Which commands the lines of a journal of many nodes ask, and where they go.
 use Rattle.std.proofs.Common.{◌≡◌, ℕ, true, false, List, [], ◌∷◌, refl, sym, ap, ◌∙◌, subst}
 use Rattle.std.proofs.lemmas.Bool.{and_parts}
-use Rattle.std.specs.Prelude.{Some, None, ◌&&◌}
+use Rattle.std.specs.Prelude.{Option, Some, None, ◌&&◌}
 use Rattle.ch_base.specs.declared.address.Address.{Address}
 use Rattle.ch_static.specs.declared.command.Command.{Command}
 use Rattle.ch_static.specs.declared.command.Command.TheVariants as commands
@@ -18,8 +18,8 @@ use Rattle.ch_laws_many.specs.ManyLines.{is_of_many}
 use Rattle.ch_laws_plain_nodes.specs.Plain.{IsToProcess, IsPlainCommand}
 use Rattle.ch_laws_plain_asks.specs.Asks.{SendsToDeclared, AsksPlainly, goes_to}
 
-given_so : (known : Names) (one by : ProcName) (asked command : Command) → Some (one, asked) ≡ Some (by, command) → AsksPlainly known one asked → AsksPlainly known by command
-given_so known one by asked command e a = let is : (one, asked) ≡ (by, command) = cc in subst (λ (x : ProcName × Command). AsksPlainly known x.0 x.1) is a
+given_so : (known : Names) (one by : ProcName) (asked command : Command) → ◌≡◌ {A = Option (ProcName × Command)} (Some (one, asked)) (Some (by, command)) → AsksPlainly known one asked → AsksPlainly known by command
+given_so known one by asked command e a = let is : ◌≡◌ {A = ProcName × Command} (one, asked) (by, command) = cc in subst (λ (x : ProcName × Command). AsksPlainly known x.0 x.1) is a
 
 pub asks_plainly : (known : Names) (what : What) (by : ProcName) (command : Command) → is_of_many known what ≡ true → command_as known what ≡ Some (by, command) → AsksPlainly known by command
 asks_plainly known (lines.Send one (names.Process to) mark body) by command of asks = let parts = and_parts (is_declared known one.node) (is_declared known to.node) of in given_so known one by _ command asks (record { declared = parts.0; sends = (to, parts.1, refl) })

@@ -13,14 +13,10 @@ use Rattle.ch_model.specs.declared.act.Act.TheVariants as acts
 use Rattle.ch_laws_plain_nodes.specs.Acts.{ArePlain, OpensNone, OpensTo}
 use Rattle.ch_laws_plain.specs.Acts.{AreShort}
 
--- the numbers of a process have eight bytes
-numbers_long : (p : ProcessId) → length (number p.unique ++ number p.counter) ≡ 8
-numbers_long p = length-append (number p.unique) (number p.counter)
-
 pub process_short : (p : ProcessId) → IsAddress p.node → length (process p) ≤ 89
-process_short p a = fits (length (address_text p.node)) (length (number p.unique ++ number p.counter)) (length (process p)) a.short (numbers_long p) (length-append (address p.node) (number p.unique ++ number p.counter)) where
-  fits : (t n l : ℕ) → t ≤ 80 → n ≡ 8 → l ≡ suc t + n → l ≤ 89
-  fits t n l s e f = omega arith
+process_short p a = fits (length (address_text p.node)) (length (address p.node ++ number p.unique)) (length (process p)) a.short (length-append (address p.node) (number p.unique)) (length-append (address p.node ++ number p.unique) (number p.counter)) where
+  fits : (t f l : ℕ) → t ≤ 80 → f ≡ suc t + 4 → l ≡ f + 4 → l ≤ 89
+  fits t f l s e g = omega arith
 
 pub opening_short : (from to : ProcessId) → IsAddress from.node → IsAddress to.node → length (message (Opening (ends.Process from) (ends.Process to))) ≤ MOST_PAYLOAD_BYTES
 opening_short from to a b = fits (length (process from)) (length (process to)) (length (identifier (ends.Process from) ++ identifier (ends.Process to))) (process_short from a) (process_short to b) (length-append (identifier (ends.Process from)) (identifier (ends.Process to))) where

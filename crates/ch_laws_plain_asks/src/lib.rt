@@ -29,7 +29,7 @@ ghost use Rattle.ch_model.specs.NodeState.{NodeState};
 ghost use Rattle.ch_model.specs.World.{names_of};
 ghost use Rattle.ch_model.specs.WorldState.{Cell, World};
 ghost use Rattle.ch_laws_bytes.specs.Streams.{AreAddresses};
-ghost use Rattle.ch_laws_calls.specs.Calls.{Claim};
+ghost use Rattle.ch_laws_calls.specs.Calls.{Anything};
 ghost use Rattle.ch_laws_calls.specs.Peers.{Peers};
 ghost use Rattle.ch_laws_calls.specs.Sound.{Sound};
 ghost use Rattle.ch_laws_connections.specs.Fits.{CellHolds};
@@ -71,5 +71,5 @@ pub fn dials_are_between_peers()
     ensures asked { (journal : List Line) → IsJournal journal → AreAddresses (names_of journal) → (log : List Entry) (world : World) (what : What) (by : ProcName) (command : Command) (place : ℕ) (cell : Cell × ℕ) (number : ℕ) (node : NodeState) (acts : List Act) (next : NodeState) (told : List LocalEntry) (after : Cell) → IsAsked journal world what by command place
         → slice_get world.cells place ≡ Some cell → find (is_at (end_in world by)) cell.0.nodes ≡ Some (number, node) → node_command node by.counter command (room_for cell.0.host (end_in world by) node.own (target_node node by.counter command)) ≡ Ok (acts, next)
         → acts_on (end_in world by) acts (with_node (end_in world by) next cell.0) ≡ Ok (told, after) → Sound journal log world → CellHolds cell.0 → WorldIsPlain journal world → Peers journal log world → Peers journal (log ++ (told_on place cell after told world).0) (told_on place cell after told world).1 }
-    ensures kept { (journal : List Line) (P Q : Claim) → IsJournal journal → AreAddresses (names_of journal) → ((log : List Entry) (world : World) → P log world → Given journal log world) → EndsDialNone P → ItemsDialNone P → KeepsTurns journal P Q (Peers journal) }
+    ensures kept { (journal : List Line) → IsJournal journal → AreAddresses (names_of journal) → EndsDialNone (Given journal) → ItemsDialNone (Given journal) → KeepsTurns journal (Given journal) Anything (Peers journal) }
 {}

@@ -1,3 +1,5 @@
+use Rattle.ch_laws_calls.specs.Calls.{Anything}
+use Rattle.ch_laws_plain_asks.specs.Given.{Given}
 use Rattle.ch_laws_plain_asks.proofs.Kept.{peers_kept}
 use Rattle.ch_laws_plain_asks.proofs.Peers.{made_peers, asked_peers}
 use Rattle.ch_laws_plain_asks.proofs.dials_are_between_peers.Goals as goal
@@ -9,4 +11,4 @@ pub returns-clause-asked : goal.returns-clause-asked
 returns-clause-asked c = asked_peers
 
 pub returns-clause-kept : goal.returns-clause-kept
-returns-clause-kept c = peers_kept
+returns-clause-kept c = λ journal j addresses ends items. peers_kept journal (Given journal) Anything j addresses (λ log world g. g) ends items
