@@ -1,6 +1,6 @@
 -- What is dialed by all acts of a plain node, one after another.
 use Rattle.std.proofs.Common.{◌≡◌, ◌⊎◌, inl, inr, ◌≤◌, ℕ, ◌+◌, ◌*◌, Bool, true, false, cond, List, [], ◌∷◌, ◌++◌, map, Ok, Err, refl, sym, ap, ◌∙◌, subst, arith}
-use Rattle.std.specs.Prelude.{find, Some, None, Result, ◌==◌}
+use Rattle.std.specs.Prelude.{Result}
 use Rattle.ch_base.specs.declared.address.Address.{Address}
 use Rattle.ch_ident.specs.declared.identifier.ProcessId.{ProcessId}
 use Rattle.ch_ident.specs.declared.identifier.Identifier.TheVariants as ends
@@ -18,7 +18,7 @@ use Rattle.ch_model.specs.declared.step.EndError.{EndError}
 use Rattle.ch_model.specs.declared.step.EndError.TheVariants as errors
 use Rattle.ch_model.specs.declared.step.Step.{Step}
 use Rattle.ch_model.specs.declared.step.Weight.TheVariants.{Free}
-use Rattle.ch_model.specs.CellSteps.{Followed, after_entries, ◌then◌, told_steps, asked, act_on, acts_on}
+use Rattle.ch_model.specs.CellSteps.{Followed, after_entries, ◌then◌, asked, act_on, acts_on}
 use Rattle.ch_model.specs.HostCalls.{host_connect, host_send, host_close}
 use Rattle.ch_model.specs.HostState.{HostState}
 use Rattle.ch_model.specs.HostSteps.{link_with}
@@ -40,7 +40,7 @@ use Rattle.ch_laws_fits.specs.Turns.{NoDials}
 use Rattle.ch_laws_plain_nodes.specs.Acts.{AreNotes}
 use Rattle.ch_laws_plain_nodes.specs.Does.{SendsAway, pair_between, said_note, said_on, sent_acts, sent_mark, said_pair}
 use Rattle.ch_laws_plain.proofs.Opens.{IsAlone}
-use Rattle.ch_laws_plain_asks.specs.Asks.{DialsAway, DialsOnce}
+use Rattle.ch_laws_plain_asks.specs.Asks.{DialsOnce}
 use Rattle.ch_laws_plain_asks.proofs.Wants.{Rests, Dials, AsksFrom, Asks, AllAsk, asks_nothing, none_both, asks_then, AllDialNone}
 use Rattle.ch_laws_plain_asks.proofs.Wants as wants
 

@@ -1,17 +1,16 @@
 -- Which commands the lines of a journal of many nodes ask, and where they go.
-use Rattle.std.proofs.Common.{◌≡◌, ℕ, true, false, List, [], ◌∷◌, refl, sym, ap, ◌∙◌, subst}
+use Rattle.std.proofs.Common.{◌≡◌, ℕ, true, List, refl, sym, ap, subst}
 use Rattle.std.proofs.lemmas.Bool.{and_parts}
-use Rattle.std.specs.Prelude.{Option, Some, None, ◌&&◌}
+use Rattle.std.specs.Prelude.{Option, Some}
 use Rattle.ch_base.specs.declared.address.Address.{Address}
 use Rattle.ch_static.specs.declared.command.Command.{Command}
 use Rattle.ch_static.specs.declared.command.Command.TheVariants as commands
 use Rattle.ch_static.specs.declared.target.Target.{Target}
-use Rattle.ch_static.specs.declared.target.Target.TheVariants as targets
 use Rattle.ch_model.specs.declared.line.What.{What}
 use Rattle.ch_model.specs.declared.line.What.TheVariants as lines
 use Rattle.ch_model.specs.declared.name.ProcName.{ProcName}
 use Rattle.ch_model.specs.declared.name.TargetName.TheVariants as names
-use Rattle.ch_model.specs.Naming.{Names, address_as, process_as}
+use Rattle.ch_model.specs.Naming.{Names, address_as}
 use Rattle.ch_model.specs.WorldLines.{command_as}
 use Rattle.ch_laws_log.specs.Declared.{is_declared}
 use Rattle.ch_laws_many.specs.ManyLines.{is_of_many}

@@ -1,6 +1,7 @@
 -- Each dial is between two nodes of the journal still, after whatever happens.
-use Rattle.std.proofs.Common.{◌≡◌, ◌⊎◌, inl, inr, ◌+◌, ◌*◌, ℕ, Bool, true, false, cond, not, ◌&&◌, List, [], ◌∷◌, ◌++◌, length, drop, Ok, refl, sym, ap, ◌∙◌, subst}
+use Rattle.std.proofs.Common.{◌≡◌, inl, inr, ◌+◌, ◌*◌, ℕ, Bool, true, false, cond, not, ◌&&◌, List, [], ◌∷◌, ◌++◌, length, drop, Ok, refl, sym, ap, ◌∙◌, subst}
 use Rattle.std.proofs.lemmas.Slice.Eq.{bytes_eq-Decides}
+use Rattle.std.specs.List.{list_all}
 use Rattle.std.specs.Prelude.{find, slice_get, Option, Some, None}
 use Rattle.std.specs.Str.{bytes_eq}
 use Rattle.ch_base.specs.declared.address.Address.{Address}
@@ -19,19 +20,17 @@ use Rattle.ch_model.specs.declared.name.ProcName.{ProcName}
 use Rattle.ch_model.specs.declared.step.SocketEvent.TheVariants as sockets
 use Rattle.ch_model.specs.declared.step.Step.{Step}
 use Rattle.ch_model.specs.Cell.{room_for}
-use Rattle.ch_model.specs.CellSteps.{is_at, with_node, told_steps, acts_on, steps_on}
-use Rattle.ch_model.specs.Host.{keeps, host_on, host_next}
+use Rattle.ch_model.specs.CellSteps.{is_at, with_node, told_steps, acts_on}
+use Rattle.ch_model.specs.Host.{keeps, host_on}
 use Rattle.ch_model.specs.HostState.{Socket, HostState}
 use Rattle.ch_model.specs.HostSteps.{Stepped, still, own_address, is_socket}
-use Rattle.ch_model.specs.Marks.{line_numbered}
 use Rattle.ch_model.specs.Naming.{Names, address_as, called}
 use Rattle.ch_model.specs.Node.{node_make, node_command, target_node}
 use Rattle.ch_model.specs.NodeState.{NodeState}
 use Rattle.ch_model.specs.Stages.{is_open}
 use Rattle.ch_model.specs.World.{names_of}
 use Rattle.ch_model.specs.WorldHappenings.{with_cell}
-use Rattle.ch_model.specs.WorldLines.{can_join, can_come, can_feed}
-use Rattle.ch_model.specs.WorldSockets.{end_of, opened}
+use Rattle.ch_model.specs.WorldSockets.{opened}
 use Rattle.ch_model.specs.WorldState.{Cell, WorldSocket, World}
 use Rattle.ch_laws_log.specs.Declared.{AreApart, is_declared}
 use Rattle.ch_laws_log.specs.HostEnds.{steps_in}
@@ -40,15 +39,14 @@ use Rattle.ch_laws_bytes.specs.Streams.{AreAddresses}
 use Rattle.ch_laws_bytes.proofs.Lines.{own_of}
 use Rattle.ch_laws_bytes.proofs.Told.{end_names}
 use Rattle.ch_laws_links.proofs.Cells.{steps_told}
-use Rattle.ch_laws_many.specs.ManyLines.{is_of_many}
 use Rattle.ch_laws_many.proofs.Reached.{IsJournal}
 use Rattle.ch_laws_connections.specs.Fits.{CellHolds}
-use Rattle.ch_laws_calls.specs.Calls.{Claim, Anything, with_host, done_at, IsCalled, IsHeldBy, IsIn, AllRead, joined_in, come_in, fed_in}
+use Rattle.ch_laws_calls.specs.Calls.{with_host, done_at, IsCalled, joined_in, come_in, fed_in}
 use Rattle.ch_laws_calls.specs.Peers.{is_of_peers, Peers}
 use Rattle.ch_laws_calls.specs.Sound.{Sound}
 use Rattle.ch_laws_fits.specs.Turns.{NoDials}
 use Rattle.ch_laws_fits.proofs.Events.{AllAlone, joined_alone}
-use Rattle.ch_laws_turns.specs.Turns.{told_on, IsAsked, end_in, KeepsTurns}
+use Rattle.ch_laws_turns.specs.Turns.{told_on, IsAsked, end_in}
 use Rattle.ch_laws_plain.specs.Plain.{WorldIsPlain}
 use Rattle.ch_laws_plain_asks.specs.Asks.{DialsOnce, goes_to}
 use Rattle.ch_laws_plain_asks.proofs.Commands.{goes_declared}
@@ -142,7 +140,7 @@ asked_peers journal j addresses log world what by command place cell number node
 
 -- an entry that is no dial
 one_more : (journal : List Line) (log : List Entry) (entry : Entry) (done : List Entry) → is_of_peers (names_of journal) entry ≡ true → AreOfPeers (names_of journal) log → AreOfPeers (names_of journal) done → AreOfPeers (names_of journal) (log ++ entry ∷ done)
-one_more journal log entry done is a b = both_peers (names_of journal) log (entry ∷ done) a (ap (λ x. x && Rattle.std.specs.List.list_all (is_of_peers (names_of journal)) done) is ∙ b)
+one_more journal log entry done is a b = both_peers (names_of journal) log (entry ∷ done) a (ap (λ x. x && list_all (is_of_peers (names_of journal)) done) is ∙ b)
 
 pub marked_peers : (journal : List Line) (log : List Entry) (world : World) (number : ℕ) (answer : Verdict) → Peers journal log world → Peers journal (log ++ entries.Line number answer ∷ []) world
 marked_peers journal log world number answer peers = one_more journal log (entries.Line number answer) [] refl peers refl

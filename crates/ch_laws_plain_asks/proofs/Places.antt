@@ -1,9 +1,9 @@
 -- Where a node of a sound world stands: at its own address, which is that of its name.
-use Rattle.std.proofs.Common.{◌≡◌, ℕ, zero, suc, Bool, true, false, cond, ◌&&◌, List, [], ◌∷◌, refl, sym, ap, ◌∙◌, subst}
+use Rattle.std.proofs.Common.{◌≡◌, ℕ, zero, suc, Bool, true, false, cond, List, [], ◌∷◌, sym, ap, ◌∙◌, subst}
 use Rattle.std.proofs.lemmas.Bool.{and_parts}
 use Rattle.std.proofs.lemmas.List.Quantifiers.{position-Some}
 use Rattle.std.proofs.lemmas.Slice.Eq.{bytes_eq-Decides}
-use Rattle.std.specs.Prelude.{find, is_some, slice_get, get_or, Option, Some, None, ◌==◌}
+use Rattle.std.specs.Prelude.{find, is_some, slice_get, get_or, Some, ◌==◌}
 use Rattle.std.specs.Str.{bytes_eq}
 use Rattle.ch_base.specs.Addresses.{IsAddress}
 use Rattle.ch_base.specs.declared.address.Address.{Address}
@@ -13,7 +13,7 @@ use Rattle.ch_model.specs.HostSteps.{own_address}
 use Rattle.ch_model.specs.Naming.{Names, is_named, or_nobody, address_as}
 use Rattle.ch_model.specs.World.{world_new}
 use Rattle.ch_model.specs.WorldSockets.{is_host_of, cell_of}
-use Rattle.ch_model.specs.WorldState.{Cell, Named, World}
+use Rattle.ch_model.specs.WorldState.{Cell, World}
 use Rattle.ch_laws_world.specs.Grows.{Home, home_of, homes_of}
 use Rattle.ch_laws_log.specs.Declared.{is_declared}
 use Rattle.ch_laws_log.proofs.Homes.{SeatsAt, AllAtHome, Housed, fresh_housed}

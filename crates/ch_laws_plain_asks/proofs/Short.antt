@@ -1,5 +1,5 @@
 -- The opening of a connection between processes at addresses that may be spelled fits in a frame.
-use Rattle.std.proofs.Common.{◌≡◌, ◌≤◌, ℕ, suc, ◌+◌, List, [], ◌∷◌, ◌++◌, length, refl, sym, ap, ◌∙◌, subst, arith}
+use Rattle.std.proofs.Common.{◌≡◌, ◌≤◌, ℕ, suc, ◌+◌, List, [], ◌∷◌, ◌++◌, length, sym, ◌∙◌, subst, arith}
 use Rattle.std.proofs.lemmas.List.{length-append}
 use Rattle.ch_base.specs.Addresses.{IsAddress, address_text}
 use Rattle.ch_base.specs.declared.address.Address.{Address}
@@ -10,7 +10,7 @@ use Rattle.ch_ident.specs.Spelling.{number, address, process, identifier, messag
 use Rattle.ch_wire.specs.declared.TheConstants.{MOST_PAYLOAD_BYTES}
 use Rattle.ch_model.specs.declared.act.Act.{Act}
 use Rattle.ch_model.specs.declared.act.Act.TheVariants as acts
-use Rattle.ch_laws_plain_nodes.specs.Acts.{ArePlain, OpensNone, OpensTo}
+use Rattle.ch_laws_plain_nodes.specs.Acts.{IsFirst, ArePlain, OpensNone, OpensTo}
 use Rattle.ch_laws_plain.specs.Acts.{AreShort}
 
 pub process_short : (p : ProcessId) → IsAddress p.node → length (process p) ≤ 89
@@ -43,7 +43,7 @@ pub acts_short : (own peer : Address) (done : List Act) → IsAddress own → Is
 acts_short own peer [] a b plain opens = tt
 acts_short own peer (acts.Note note ∷ rest) a b plain opens = acts_short own peer rest a b plain.1 opens
 acts_short own peer (acts.Open conn at ∷ acts.Put on payload weight ∷ rest) a b plain opens = (subst (λ (l : List ℕ). length l ≤ MOST_PAYLOAD_BYTES) (sym first.spelled) (opening_short first.from first.to (subst IsAddress (sym first.from_node) a) (subst IsAddress (sym (first.to_node ∙ opens.0)) b)), none_short rest opens.2) where
-  first : Rattle.ch_laws_plain_nodes.specs.Acts.IsFirst own conn at on payload weight
+  first : IsFirst own conn at on payload weight
   first = plain.0
 acts_short own peer (acts.Open conn at ∷ []) a b plain opens = absurd plain
 acts_short own peer (acts.Open conn at ∷ acts.Note note ∷ rest) a b plain opens = absurd plain

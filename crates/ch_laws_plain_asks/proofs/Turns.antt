@@ -1,6 +1,6 @@
 -- What a node's call makes of its cell, in a plain world: its streams go on, and one socket is dialed at most.
-use Rattle.std.proofs.Common.{◌≡◌, ◌⊎◌, inl, inr, ℕ, Bool, true, false, cond, List, [], ◌∷◌, map, Ok, refl, sym, ap, ◌∙◌, subst}
-use Rattle.std.specs.Prelude.{find, slice_get, Some, None, Result}
+use Rattle.std.proofs.Common.{◌≡◌, inl, ℕ, Bool, true, false, List, Ok, refl, sym, subst}
+use Rattle.std.specs.Prelude.{find, slice_get, Some, Result}
 use Rattle.ch_base.specs.Addresses.{IsAddress}
 use Rattle.ch_base.specs.declared.address.Address.{Address}
 use Rattle.ch_base.specs.declared.event.Room.{Room}
@@ -10,7 +10,6 @@ use Rattle.ch_static.specs.declared.command.Command.{Command}
 use Rattle.ch_static.specs.declared.command.Command.TheVariants as commands
 use Rattle.ch_static.specs.declared.target.Target.TheVariants as targets
 use Rattle.ch_model.specs.declared.act.Act.{Act}
-use Rattle.ch_model.specs.declared.act.Act.TheVariants as acts
 use Rattle.ch_model.specs.declared.command.CommandError.{CommandError}
 use Rattle.ch_model.specs.declared.entry.Entry.{Entry}
 use Rattle.ch_model.specs.declared.line.Line.{Line}
@@ -19,15 +18,14 @@ use Rattle.ch_model.specs.declared.local.LocalEntry.{LocalEntry}
 use Rattle.ch_model.specs.declared.name.ProcName.{ProcName}
 use Rattle.ch_model.specs.Cell.{room_for}
 use Rattle.ch_model.specs.CellSteps.{is_at, with_node, acts_on}
-use Rattle.ch_model.specs.HostState.{HostState}
 use Rattle.ch_model.specs.Naming.{Names, address_as}
 use Rattle.ch_model.specs.Node.{node_make, node_command, target_node}
 use Rattle.ch_model.specs.NodeIds.{is_here}
 use Rattle.ch_model.specs.NodePairs.{conns_by}
 use Rattle.ch_model.specs.NodeState.{NodeState}
 use Rattle.ch_model.specs.World.{names_of}
-use Rattle.ch_model.specs.WorldLines.{command_as}
 use Rattle.ch_model.specs.WorldState.{Cell, World}
+use Rattle.ch_laws_log.specs.Declared.{is_declared}
 use Rattle.ch_laws_log.specs.HostEnds.{steps_in}
 use Rattle.ch_laws_log.proofs.Homes.{own_is}
 use Rattle.ch_laws_bytes.specs.Streams.{AreAddresses}
@@ -35,17 +33,16 @@ use Rattle.ch_laws_bytes.proofs.Lines.{own_of}
 use Rattle.ch_laws_links.specs.Naming.{IsNaming}
 use Rattle.ch_laws_many.specs.ManyLines.{is_of_many}
 use Rattle.ch_laws_writes.specs.Orderly.{IsOrderly}
-use Rattle.ch_laws_connections.specs.Senders.{Sender, sender_of, Own}
+use Rattle.ch_laws_connections.specs.Senders.{sender_of, Own}
 use Rattle.ch_laws_connections.specs.Fits.{FitsAs, CellHolds}
-use Rattle.ch_laws_connections.proofs.Cells.{sizes, node_fits}
+use Rattle.ch_laws_connections.proofs.Cells.{node_fits}
 use Rattle.ch_laws_connections.proofs.CellSteps.{room_fits}
 use Rattle.ch_laws_connections.proofs.Does as does
 use Rattle.ch_laws_connections.proofs.Nodes as agrees
-use Rattle.ch_laws_connections.specs.Tables.{roomy_at}
 use Rattle.ch_laws_calls.specs.Sound.{Sound}
 use Rattle.ch_laws_turns.specs.Turns.{IsAsked, end_in}
 use Rattle.ch_laws_plain_nodes.specs.Acts.{OpensTo}
-use Rattle.ch_laws_plain_nodes.specs.Does.{Does, Makes, SendsHome, SendsAway, Takes, Ends}
+use Rattle.ch_laws_plain_nodes.specs.Does.{Does, Makes}
 use Rattle.ch_laws_plain_nodes.specs.Plain.{IsPlain, IsPlainCommand}
 use Rattle.ch_laws_plain_nodes.proofs.Calls.{makes, told_does, ends_open_none}
 use Rattle.ch_laws_plain_nodes.proofs.Commands as plain
@@ -142,7 +139,7 @@ module _ (journal : List Line) (log : List Entry) (world : World) (sound : Sound
     pub own_named : (number : ℕ) (node : NodeState) → find (is_at (end_in world by)) cell.0.nodes ≡ Some (number, node) → node.own ≡ address_as world.names by.node
     own_named number node found = own_is journal world (address_as world.names by.node) place cell (number, node) (housed journal log world sound) asked.cell at found
 
-    spelled : (name : List ℕ) → Rattle.ch_laws_log.specs.Declared.is_declared world.names name ≡ true → IsAddress (address_as world.names name)
+    spelled : (name : List ℕ) → is_declared world.names name ≡ true → IsAddress (address_as world.names name)
     spelled name declared = address_spelled world.names name (subst AreAddresses (sym sound.ends.set.names) addresses) declared
 
     pub command_turn : (number : ℕ) (node next : NodeState) (done : List Act) (told : List LocalEntry) (after : Cell) → find (is_at (end_in world by)) cell.0.nodes ≡ Some (number, node) → node_command node by.counter command (room_for cell.0.host (end_in world by) node.own (target_node node by.counter command)) ≡ Ok (done, next)

@@ -1,6 +1,6 @@
 -- What a host dials as an endpoint asks of its link with one peer: a link that is idle dials once, and no other does.
 use Rattle.std.proofs.Common.{◌≡◌, ◌⊎◌, inl, inr, ◌≤◌, ℕ, ◌+◌, Bool, true, false, cond, List, [], ◌∷◌, ◌++◌, Ok, Err, refl, sym, ap, ◌∙◌, subst}
-use Rattle.std.specs.Prelude.{find, Option, Some, None, Result, nat_lt, ◌==◌}
+use Rattle.std.specs.Prelude.{find, Option, Some, None, Result, nat_lt}
 use Rattle.ch_base.specs.declared.address.Address.{Address}
 use Rattle.ch_base.specs.declared.memory.Stop.TheVariants as stops
 use Rattle.ch_wire.specs.declared.frame.Frame.{Frame}

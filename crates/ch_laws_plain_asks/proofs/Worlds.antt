@@ -1,5 +1,5 @@
 -- A node's own turn leaves a plain world.
-use Rattle.std.proofs.Common.{◌≡◌, ◌⊎◌, inl, inr, ℕ, List, [], ◌∷◌, Ok, refl, sym, subst}
+use Rattle.std.proofs.Common.{◌≡◌, inl, inr, ℕ, List, Ok, refl, sym, subst}
 use Rattle.std.specs.Prelude.{find, slice_get, Option, Some}
 use Rattle.ch_base.specs.declared.address.Address.{Address}
 use Rattle.ch_static.specs.declared.command.Command.{Command}

@@ -11,7 +11,7 @@ use Rattle.ch_model.specs.declared.step.Step.TheVariants as steps
 use Rattle.ch_model.specs.HostLinks.{dialed}
 use Rattle.ch_model.specs.HostState.{HostState}
 use Rattle.ch_model.specs.HostSteps.{is_socket}
-use Rattle.ch_model.specs.Naming.{Names, address_as, process_as}
+use Rattle.ch_model.specs.Naming.{Names, process_as}
 use Rattle.ch_laws_log.specs.Declared.{is_declared}
 use Rattle.ch_laws_fits.specs.Turns.{NoDials}
 
