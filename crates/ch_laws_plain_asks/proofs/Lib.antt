@@ -1,0 +1,10 @@
+pub mod Wants
+pub mod Acts
+pub mod Commands
+pub mod Short
+pub mod Places
+pub mod Turns
+pub mod Worlds
+pub mod Dialed
+pub mod Peers
+pub mod Kept
