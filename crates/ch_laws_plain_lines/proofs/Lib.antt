@@ -1,0 +1,6 @@
+pub mod Borrowed
+pub mod Rests
+pub mod Kept
+pub mod Joined
+pub mod Handed
+pub mod Turned
