@@ -1,5 +1,5 @@
 -- What is handed to a host leaves a plain world: a target's end that comes, and bytes that are fed.
-use Rattle.std.proofs.Common.{◌≡◌, ◌⊎◌, inl, inr, ◌≤◌, ℕ, ◌+◌, ◌*◌, Bool, true, false, cond, ◌||◌, List, [], ◌∷◌, ◌++◌, take, drop, Ok, refl, sym, ap, ◌∙◌, subst, append_assoc, arith}
+use Rattle.std.proofs.Common.{◌≡◌, ◌⊎◌, inl, inr, ◌≤◌, ℕ, ◌+◌, ◌*◌, Bool, true, false, cond, ◌&&◌, ◌||◌, List, [], ◌∷◌, ◌++◌, take, drop, Ok, refl, sym, ap, ◌∙◌, subst, append_assoc, arith}
 use Rattle.std.proofs.lemmas.Bool.{and_parts}
 use Rattle.std.proofs.lemmas.List.{take-append-drop}
 use Rattle.std.specs.Option.{option_map}
@@ -13,14 +13,14 @@ use Rattle.ch_model.specs.declared.name.End.TheVariants.{O, T}
 use Rattle.ch_model.specs.declared.name.SockName.{SockName}
 use Rattle.ch_model.specs.declared.step.SocketEvent.TheVariants as sockets
 use Rattle.ch_model.specs.declared.step.Step.{Step}
-use Rattle.ch_model.specs.Host.{accepted, host_on}
+use Rattle.ch_model.specs.Host.{accepted, keeps, host_on}
 use Rattle.ch_model.specs.HostState.{Socket, HostState}
-use Rattle.ch_model.specs.HostSteps.{Stepped, is_socket, with_socket}
+use Rattle.ch_model.specs.HostSteps.{Stepped, still, is_socket, with_socket}
 use Rattle.ch_model.specs.Same.{same_socket, same_end}
 use Rattle.ch_model.specs.Stages.{Stage, Pending, Open, Ended, is_pending, is_open, is_ended}
 use Rattle.ch_model.specs.WorldHappenings.{with_cell}
 use Rattle.ch_model.specs.WorldLines.{can_come, can_feed, is_at_work}
-use Rattle.ch_model.specs.WorldSockets.{end_of, with_end, opened, is_of_host, has_input, is_socket_named, is_end_of, find_end}
+use Rattle.ch_model.specs.WorldSockets.{end_of, with_end, opened, is_of_host, has_input, is_socket_named, same_number, is_end_of, find_end}
 use Rattle.ch_model.specs.WorldState.{Cell, WorldEnd, WorldSocket, World}
 use Rattle.ch_laws_bytes.specs.Streams.{Reader, reader_in, reader_at, readers_of, reads_at, is_over, reader_of}
 use Rattle.ch_laws_bytes.proofs.Sockets.{not_found, other_end_there}
@@ -32,16 +32,15 @@ use Rattle.ch_laws_ends.proofs.Found.{EachFound, none_found}
 use Rattle.ch_laws_ends.proofs.Happen.{its_stage}
 use Rattle.ch_laws_ends.proofs.Known.{TargetIs}
 use Rattle.ch_laws_ends.proofs.Places.{got_same, set_twice}
-use Rattle.ch_laws_log.proofs.HostTold.{number_found, find_stored}
+use Rattle.ch_laws_log.proofs.HostTold.{number_found}
 use Rattle.ch_laws_log.proofs.Stored.{number_same, self_same}
 use Rattle.ch_laws_fits.specs.Fit.{MayAskWell}
-use Rattle.ch_laws_plain_lines.proofs.Borrowed.{SameText, keeping, with_bytes, of_end, feeds_host}
 use Rattle.ch_laws_fits.proofs.Sockets.{IsChanged, IsAnother, changed_or}
 use Rattle.ch_laws_fits.proofs.Told.{end_kept, asked_before}
 use Rattle.ch_laws_plain.specs.Plain.{pending_in, pending_there, pending_of, PlainAt, EndIsPlain, WorldIsPlain}
 use Rattle.ch_laws_plain_lines.proofs.Rests.{links_plain}
 use Rattle.ch_laws_plain_lines.proofs.Joined.{cells_plain}
-use Rattle.ch_laws_plain_lines.proofs.Kept.{plain_moved, pending_kept, off_plain}
+use Rattle.ch_laws_plain_lines.proofs.Kept.{keeping, found_kept, pending_kept, off_plain}
 
 -- ---- a target's end comes
 
@@ -85,7 +84,7 @@ came_kept journal log world socket place cell is pending at_cell at p j = record
   free = (p.links.naming place cell at).free cell.1 (self cell.1)
 
   pending_is : (c m : Option ℕ) → pending_of after.cells c m ≡ pending_of world.cells c m
-  pending_is c m = ap (λ (cs : List (Cell × ℕ)). pending_of cs c m) cells ∙ pending_kept world.cells place cell kept (cell.1 + 1) c m at (λ n h. ap (pending_in cell.0) (subst (λ (k : ℕ). find (is_socket k) cell.0.host.sockets ≡ None) h free))
+  pending_is c m = ap (λ (cs : List (Cell × ℕ)). pending_of cs c m) cells ∙ pending_kept world.cells place cell kept (cell.1 + 1) c m at (ap (pending_in cell.0) free)
 
   -- its number is none yet
   unnumbered : socket.t.number ≡ None
@@ -101,14 +100,11 @@ came_kept journal log world socket place cell is pending at_cell at p j = record
   here : slice_get after.cells place ≡ Some (keeping cell kept (cell.1 + 1))
   here = ap (λ (l : List (Cell × ℕ)). slice_get l place) cells ∙ got_same world.cells place cell (keeping cell kept (cell.1 + 1)) at
 
-  there : find (is_socket number) (with_socket kept cell.0.host).sockets ≡ Some kept
-  there = find_stored kept cell.0.host.sockets number ∙ ap (λ b. cond b (Some kept) (find (is_socket number) cell.0.host.sockets)) (number_same number)
-
   reader_was : reader_of world socket T ≡ Some (expected.Request, [])
   reader_was = ap (λ (c : Option ℕ). reads_at (readers_of world.cells) expected.Request c socket.t.number) at_cell ∙ ap (reads_at (readers_of world.cells) expected.Request (Some place)) unnumbered
 
   reader_is : reader_of after come T ≡ Some (expected.Request, [])
-  reader_is = ap (λ (c : Option ℕ). reads_at (readers_of after.cells) expected.Request c (Some number)) at_cell ∙ ap (λ (o : Option (Cell × ℕ)). reader_at o number) here ∙ ap reader_in there
+  reader_is = ap (λ (c : Option ℕ). reads_at (readers_of after.cells) expected.Request c (Some number)) at_cell ∙ ap (λ (o : Option (Cell × ℕ)). reader_at o number) here ∙ ap reader_in (found_kept kept cell.0.host number refl)
 
   over_is : (stage : Stage) → is_pending stage ≡ true → (is_ended stage || socket.t.is_cut) ≡ (false || socket.t.is_cut)
   over_is Pending e = refl
@@ -123,9 +119,8 @@ came_kept journal log world socket place cell is pending at_cell at p j = record
 
   come_plain : (e : End) → MayAskWell journal world socket → EndIsPlain after come e
   come_plain O may = off_plain world after place cell kept (cell.1 + 1) socket O at cells (off socket.name socket O is) (pending_is socket.o.cell socket.o.number) (j.ends socket.name socket O is may)
-  come_plain T may = plain_moved (reader_of world socket T) (reader_of after come T) (is_over come.t) socket.t.unread socket.t.unread (pending_of world.cells socket.t.cell socket.t.number) (pending_of after.cells socket.t.cell (Some number))
-      (subst (λ (r : Option Reader). SameText r socket.t.unread (reader_of after come T) socket.t.unread) (sym reader_was) (subst (λ (r : Option Reader). SameText (Some (expected.Request, [])) socket.t.unread r socket.t.unread) (sym reader_is) (refl, refl)))
-      (pending_now ∙ sym pending_was) (subst (λ (b : Bool). PlainAt (reader_of world socket T) b socket.t.unread (pending_of world.cells socket.t.cell socket.t.number)) (over_is socket.t.stage pending) (j.ends socket.name socket T is may))
+  come_plain T may = subst (λ (r : Option Reader). PlainAt r (is_over come.t) socket.t.unread (pending_of after.cells socket.t.cell (Some number))) (reader_was ∙ sym reader_is) (subst (λ (o : Option ℕ). PlainAt (reader_of world socket T) (is_over come.t) socket.t.unread o) (pending_was ∙ sym pending_now)
+      (subst (λ (b : Bool). PlainAt (reader_of world socket T) b socket.t.unread (pending_of world.cells socket.t.cell socket.t.number)) (over_is socket.t.stage pending) (j.ends socket.name socket T is may)))
 
   before : (s : SockName) (w one : WorldSocket) → w.name ≡ one.name → w.o.cell ≡ one.o.cell → MayAskWell journal after w → MayAskWell journal world one
   before s w one name same may = asked_before journal world after one w names name same may
@@ -158,6 +153,24 @@ came_plain journal log world socket place cell steps host is can at_cell c read 
   as_done done e f = subst (λ (d : Stepped). WorldIsPlain journal (done_at place (cell.0, cell.1 + 1) (told_in d) (host_in d) (come_in place cell socket world)).1) e f
 
 -- ---- bytes are fed
+
+-- the record that a host keeps with the bytes
+abbrev with_bytes : Socket → List ℕ → Socket
+with_bytes known bytes = record known { since = known.since ++ bytes }
+
+-- what is fed is read with what is unread
+fed_end : (known : Socket) (count : ℕ) (unread : List ℕ) (over : Bool) (pending : Option ℕ) → PlainAt (reader_in (Some known)) over unread pending → PlainAt (reader_in (Some (with_bytes known (take count unread)))) over (drop count unread) pending
+fed_end known count unread over pending plain = by_tests (is_ended known.stage) over plain where
+  text : (known.since ++ take count unread) ++ drop count unread ≡ known.since ++ unread
+  text = append_assoc known.since (take count unread) (drop count unread) ∙ ap (λ (l : List ℕ). known.since ++ l) (take-append-drop count unread)
+
+  by_tests : (a b : Bool) → PlainAt (cond a None (Some (known.expected, known.since))) b unread pending → PlainAt (cond a None (Some (known.expected, known.since ++ take count unread))) b (drop count unread) pending
+  by_tests true b plain = tt
+  by_tests false true plain = tt
+  by_tests false false plain = λ all whole each. plain all (sym text ∙ whole) each
+
+held_is : (place n : ℕ) (end : WorldEnd) → IsHeldBy place n end → is_end_of place n end ≡ true
+held_is place n end h = ap (λ (c : Option ℕ). same_number c place && same_number end.number n) h.cell ∙ ap (λ (m : Option ℕ). same_number (Some place) place && same_number m n) h.number ∙ ap (λ b. b && (n == n)) (number_same place) ∙ number_same n
 
 -- an end that is fed, of which its host has this record
 record IsFed (world : World) (socket : WorldSocket) (which : End) (place n : ℕ) (cell : Cell × ℕ) (known : Socket) : Type 0 where
@@ -198,13 +211,13 @@ fed_kept journal world socket which count place n cell known f j = record {
   number = number_found n cell.0.host.sockets known f.kept
 
   found_end : find_end place n world.sockets ≡ Some (socket.name, which)
-  found_end = f.each socket.name socket which place n f.is (of_end place n (end_of which socket) f.held)
+  found_end = f.each socket.name socket which place n f.is (held_is place n (end_of which socket) f.held)
 
   as_kept : (end : WorldEnd) → is_end_of place n end ≡ false → is_end_of place kept.number end ≡ false
   as_kept end off = subst (λ (m : ℕ). is_end_of place m end ≡ false) (sym number) off
 
   pending_is : (c m : Option ℕ) → pending_of after.cells c m ≡ pending_of world.cells c m
-  pending_is c m = ap (λ (cs : List (Cell × ℕ)). pending_of cs c m) cells ∙ pending_kept world.cells place cell kept cell.1 c m f.at (λ k h. ap (pending_in cell.0) (subst (λ (i : ℕ). find (is_socket i) cell.0.host.sockets ≡ Some known) (sym number ∙ h) f.kept))
+  pending_is c m = ap (λ (cs : List (Cell × ℕ)). pending_of cs c m) cells ∙ pending_kept world.cells place cell kept cell.1 c m f.at (ap (pending_in cell.0) (ap (λ (k : ℕ). find (is_socket k) cell.0.host.sockets) number ∙ f.kept))
 
   -- another end
   off_is : (w : WorldSocket) (e : End) → is_end_of place n (end_of e w) ≡ false → EndIsPlain world w e → EndIsPlain after w e
@@ -213,30 +226,25 @@ fed_kept journal world socket which count place n cell known f j = record {
   here : slice_get after.cells place ≡ Some now
   here = ap (λ (l : List (Cell × ℕ)). slice_get l place) cells ∙ got_same world.cells place cell now f.at
 
-  there : find (is_socket n) (with_socket kept cell.0.host).sockets ≡ Some kept
-  there = find_stored kept cell.0.host.sockets n ∙ ap (λ b. cond b (Some kept) (find (is_socket n) cell.0.host.sockets)) (subst (λ (m : ℕ). (m == n) ≡ true) (sym number) (number_same n))
+  -- the end that is fed
+  fed_there : (first : Expected) (end : WorldEnd) (over : Bool) → IsHeldBy place n end → bytes ≡ take count end.unread → PlainAt (reads_at (readers_of world.cells) first end.cell end.number) over end.unread (pending_of world.cells end.cell end.number) → PlainAt (reads_at (readers_of after.cells) first end.cell end.number) over (drop count end.unread) (pending_of after.cells end.cell end.number)
+  fed_there first end over held fed plain = subst (λ (r : Option Reader). PlainAt r over (drop count end.unread) (pending_of after.cells end.cell end.number)) (sym is_now) (subst (λ (o : Option ℕ). PlainAt (reader_in (Some kept)) over (drop count end.unread) o) (sym (pending_is end.cell end.number))
+      (subst (λ (l : List ℕ). PlainAt (reader_in (Some (with_bytes known l))) over (drop count end.unread) (pending_of world.cells end.cell end.number)) (sym fed) (fed_end known count end.unread over (pending_of world.cells end.cell end.number) (subst (λ (r : Option Reader). PlainAt r over end.unread (pending_of world.cells end.cell end.number)) was plain))))
+    where
+      was : reads_at (readers_of world.cells) first end.cell end.number ≡ reader_in (Some known)
+      was = ap (λ (c : Option ℕ). reads_at (readers_of world.cells) first c end.number) held.cell ∙ ap (reads_at (readers_of world.cells) first (Some place)) held.number ∙ ap (λ (o : Option (Cell × ℕ)). reader_at o n) f.at ∙ ap reader_in f.kept
 
-  -- what is fed is read with what is unread
-  text_fed : (first : Expected) (end : WorldEnd) → IsHeldBy place n end → bytes ≡ take count end.unread → SameText (reads_at (readers_of world.cells) first end.cell end.number) end.unread (reads_at (readers_of after.cells) first end.cell end.number) (drop count end.unread)
-  text_fed first end held fed = subst (λ (r : Option Reader). SameText r end.unread (reads_at (readers_of after.cells) first end.cell end.number) (drop count end.unread)) (sym was) (subst (λ (r : Option Reader). SameText (reader_in (Some known)) end.unread r (drop count end.unread)) (sym is_now) (by_stage (is_ended known.stage))) where
-    was : reads_at (readers_of world.cells) first end.cell end.number ≡ reader_in (Some known)
-    was = ap (λ (c : Option ℕ). reads_at (readers_of world.cells) first c end.number) held.cell ∙ ap (reads_at (readers_of world.cells) first (Some place)) held.number ∙ ap (λ (o : Option (Cell × ℕ)). reader_at o n) f.at ∙ ap reader_in f.kept
-
-    is_now : reads_at (readers_of after.cells) first end.cell end.number ≡ reader_in (Some kept)
-    is_now = ap (λ (c : Option ℕ). reads_at (readers_of after.cells) first c end.number) held.cell ∙ ap (reads_at (readers_of after.cells) first (Some place)) held.number ∙ ap (λ (o : Option (Cell × ℕ)). reader_at o n) here ∙ ap reader_in there
-
-    by_stage : (b : Bool) → SameText (cond b None (Some (known.expected, known.since))) end.unread (cond b None (Some (known.expected, known.since ++ bytes))) (drop count end.unread)
-    by_stage true = tt
-    by_stage false = (refl, append_assoc known.since bytes (drop count end.unread) ∙ ap (λ (l : List ℕ). known.since ++ (l ++ drop count end.unread)) fed ∙ ap (λ (l : List ℕ). known.since ++ l) (take-append-drop count end.unread))
+      is_now : reads_at (readers_of after.cells) first end.cell end.number ≡ reader_in (Some kept)
+      is_now = ap (λ (c : Option ℕ). reads_at (readers_of after.cells) first c end.number) held.cell ∙ ap (reads_at (readers_of after.cells) first (Some place)) held.number ∙ ap (λ (o : Option (Cell × ℕ)). reader_at o n) here ∙ ap reader_in (found_kept kept cell.0.host n number)
 
   off_other : (x : End) → same_end which x ≡ false → is_end_of place n (end_of x socket) ≡ false
   off_other x not_same = other_end_there place n world.sockets (socket.name, which) socket x f.each found_end f.is not_same
 
   which_plain : (w e : End) → IsHeldBy place n (end_of w socket) → bytes ≡ take count (end_of w socket).unread → ((x : End) → same_end w x ≡ false → is_end_of place n (end_of x socket) ≡ false) → EndIsPlain world socket e → EndIsPlain after (with_end w (feeds (end_of w socket)) socket) e
-  which_plain O O held fed others plain = plain_moved (reader_of world socket O) (reader_of after socket O) (is_over socket.o) socket.o.unread (drop count socket.o.unread) (pending_of world.cells socket.o.cell socket.o.number) (pending_of after.cells socket.o.cell socket.o.number) (text_fed expected.Answer socket.o held fed) (pending_is socket.o.cell socket.o.number) plain
+  which_plain O O held fed others plain = fed_there expected.Answer socket.o (is_over socket.o) held fed plain
   which_plain O T held fed others plain = off_is socket T (others T refl) plain
   which_plain T O held fed others plain = off_is socket O (others O refl) plain
-  which_plain T T held fed others plain = plain_moved (reader_of world socket T) (reader_of after socket T) (is_over socket.t) socket.t.unread (drop count socket.t.unread) (pending_of world.cells socket.t.cell socket.t.number) (pending_of after.cells socket.t.cell socket.t.number) (text_fed expected.Request socket.t held fed) (pending_is socket.t.cell socket.t.number) plain
+  which_plain T T held fed others plain = fed_there expected.Request socket.t (is_over socket.t) held fed plain
 
   fed_name : (w : End) (end : WorldEnd) → (with_end w end socket).name ≡ socket.name
   fed_name O end = refl
@@ -263,9 +271,17 @@ fed_kept journal world socket which count place n cell known f j = record {
     clash : ◌≡◌ {A = Option (SockName × End)} (Some (socket.name, which)) (Some (s, e)) → ⊥
     clash h = let same : socket.name ≡ s = ap name_in h in let yes : same_socket socket.name s ≡ true = subst (λ (m : SockName). same_socket socket.name m ≡ true) same (self_same socket.name) in let no : same_socket socket.name s ≡ false = a.other in absurd cc
 
+-- what a host does with bytes for an open end of it
+kept_bytes : (host : HostState) (n : ℕ) (bytes : List ℕ) (known : Socket) → find (is_socket n) host.sockets ≡ Some known → is_open known.stage ≡ true → ◌≡◌ {A = Stepped} (Ok ([], with_socket (with_bytes known bytes) host)) (host_on host (sockets.Fed n bytes))
+unfolding host_on
+kept_bytes host n bytes known found stands = sym (ap (λ (o : Option Socket). elim o as (λ o. Stepped) [
+  | None ↦ still host
+  | Some socket ↦ cond (is_open socket.stage) (keeps bytes socket host) (still host)
+]) found ∙ ap (λ b. cond b (keeps bytes known host) (still host)) stands)
+
 pub fed_plain : (journal : List Line) (log : List Entry) (world : World) (socket : WorldSocket) (which : End) (count b : ℕ) (bytes : List ℕ) (place n : ℕ) (cell : Cell × ℕ) (steps : List Step) (host : HostState) → IsIn socket world → can_feed which socket ≡ true → take count (end_of which socket).unread ≡ b ∷ bytes → IsHeldBy place n (end_of which socket)
     → IsCalled world place cell (sockets.Fed n (b ∷ bytes)) steps host → AllRead world → Sound journal log world → WorldIsPlain journal world → WorldIsPlain journal (done_at place cell steps host (fed_in which count socket world)).1
-fed_plain journal log world socket which count b bytes place n cell steps host is can taken held c read p j = as_done (Ok ([], with_socket (with_bytes known (b ∷ bytes)) cell.0.host)) (feeds_host cell.0.host n (b ∷ bytes) known kept.1 stands ∙ c.does)
+fed_plain journal log world socket which count b bytes place n cell steps host is can taken held c read p j = as_done (Ok ([], with_socket (with_bytes known (b ∷ bytes)) cell.0.host)) (kept_bytes cell.0.host n (b ∷ bytes) known kept.1 stands ∙ c.does)
     (subst (λ (l : List ℕ). WorldIsPlain journal (done_at place cell [] (with_socket (with_bytes known l) cell.0.host) (fed_in which count socket world)).1) taken
     (fed_kept journal world socket which count place n cell known (record { at = c.at; is = is; held = held; kept = kept.1; each = p.ends.sure.ends.each }) j))
   where

@@ -1,4 +1,3 @@
-pub mod Borrowed
 pub mod Rests
 pub mod Kept
 pub mod Joined

@@ -1,15 +1,12 @@
 -- A host that goes on as it was at its sockets carries on their streams; so does one whose end is joined.
-use Rattle.std.proofs.Common.{◌≡◌, ℕ, Bool, true, false, cond, List, [], ◌∷◌, Ok, refl, sym, ap, ◌∙◌, subst}
+use Rattle.std.proofs.Common.{◌≡◌, ℕ, Bool, true, false, cond, List, [], ◌∷◌, refl, sym, ap, ◌∙◌, subst}
 use Rattle.std.specs.Prelude.{find, Option, Some, None, ◌==◌}
 use Rattle.ch_base.specs.declared.address.Address.{Address}
 use Rattle.ch_wire.specs.Spelling.{IsRequest, request_spelling}
-use Rattle.ch_wire.specs.declared.frame.Frame.{Frame}
 use Rattle.ch_wire.specs.declared.request.Request.{Request}
-use Rattle.ch_reader.specs.declared.item.Item.{Item}
 use Rattle.ch_reader.specs.declared.item.Item.TheVariants as items
 use Rattle.ch_model.specs.declared.step.SocketEvent.TheVariants as events
 use Rattle.ch_model.specs.declared.step.Step.{Step}
-use Rattle.ch_model.specs.declared.step.Step.TheVariants as steps
 use Rattle.ch_model.specs.CellSteps.{is_at}
 use Rattle.ch_model.specs.Host.{joins, host_on}
 use Rattle.ch_model.specs.HostState.{Link, Socket, HostState}
@@ -24,12 +21,12 @@ use Rattle.ch_laws_log.proofs.Stored.{number_is}
 use Rattle.ch_laws_writes.specs.Dues.{Due, Asking, due_of, due_staged, due_asked, due_at}
 use Rattle.ch_laws_writes.specs.Orderly.{IsOrderly, link_at}
 use Rattle.ch_laws_fits.specs.Fit.{frames_in}
-use Rattle.ch_laws_fits.specs.Turns.{bytes_at, IsKind}
+use Rattle.ch_laws_fits.specs.Turns.{IsKind}
 use Rattle.ch_laws_fits.proofs.Stores.{none_kind, only_at, only_kind, only_spelled}
 use Rattle.ch_laws_plain.specs.Streams.{IsPlainStream}
 use Rattle.ch_laws_plain.specs.Talks.{LinkIsPlain}
 use Rattle.ch_laws_plain.specs.Plain.{is_unread_of, arrived_in, id_for, pending_by, pending_in, pending_at, CellIsPlain}
-use Rattle.ch_laws_plain.specs.Turns.{ReaderPlain, WriterPlain, CellCarries}
+use Rattle.ch_laws_plain.specs.Turns.{ReaderPlain, CellCarries}
 use Rattle.ch_laws_plain_lines.specs.Rests.{SocketRests, Rests, AllRest}
 
 -- ---- its cell

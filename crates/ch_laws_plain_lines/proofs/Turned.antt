@@ -1,14 +1,13 @@
 -- Turns that leave a plain world where what its cell does is plain: the end of an end's input, and an item that is read. What is
 -- told of a line of the journal changes no world.
 use Rattle.std.proofs.Common.{◌≡◌, ℕ, true, List, [], Ok, refl, sym, ap, ◌∙◌, subst}
-use Rattle.std.specs.Prelude.{find, slice_get, Option, Some}
+use Rattle.std.specs.Prelude.{find, slice_get, Some}
 use Rattle.ch_model.specs.declared.entry.Entry.{Entry}
 use Rattle.ch_model.specs.declared.entry.Verdict.{Verdict}
 use Rattle.ch_model.specs.declared.line.Line.{Line}
 use Rattle.ch_model.specs.declared.line.What.{What}
 use Rattle.ch_model.specs.declared.local.LocalEntry.{LocalEntry}
 use Rattle.ch_model.specs.declared.name.End.{End}
-use Rattle.ch_model.specs.declared.name.SockName.{SockName}
 use Rattle.ch_model.specs.declared.step.SocketEvent.TheVariants as sockets
 use Rattle.ch_model.specs.declared.step.Step.{Step}
 use Rattle.ch_model.specs.CellSteps.{steps_on}
@@ -25,7 +24,6 @@ use Rattle.ch_laws_calls.specs.Calls.{with_host, IsCalled, IsHeldBy, IsIn, AllRe
 use Rattle.ch_laws_calls.specs.Sound.{Sound}
 use Rattle.ch_laws_log.specs.HostEnds.{steps_in}
 use Rattle.ch_laws_many.specs.ManyLines.{is_of_many}
-use Rattle.ch_laws_fits.specs.Fit.{MayAskWell}
 use Rattle.ch_laws_fits.specs.Turns.{NoDials}
 use Rattle.ch_laws_fits.proofs.Told.{asked_before}
 use Rattle.ch_laws_turns.specs.Turns.{told_on}
