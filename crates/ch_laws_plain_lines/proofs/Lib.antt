@@ -1,0 +1,5 @@
+pub mod Rests
+pub mod Kept
+pub mod Joined
+pub mod Handed
+pub mod Turned
