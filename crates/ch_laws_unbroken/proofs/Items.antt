@@ -183,8 +183,8 @@ module _ (journal : List Line) (log : List Entry) (world : World) (g : Given jou
 
     calm_frame : Calm (reads_front S x known)
     calm_frame = subst Calm (sym (read.takes_frame S x cell e i socket known front.item its_acts reads_it its_frame.0 its_frame.1 r.user))
-        (after_calm (steps.Read known.number ∷ []) (reads_frame (taken known front.more) (link_of S x) its_frame.0 (with_socket (taken known front.more) (host_of S x))) refl
-        (frame_calm (taken known front.more) (link_of S x) its_frame.0 (with_socket (taken known front.more) (host_of S x)) (stays_open its_frame.0 refl) fits_first))
+        (after_calm (steps.Read known.number ∷ []) (reads_frame (taken known reads_it.more) (link_of S x) its_frame.0 (with_socket (taken known reads_it.more) (host_of S x))) refl
+        (frame_calm (taken known reads_it.more) (link_of S x) its_frame.0 (with_socket (taken known reads_it.more) (host_of S x)) (stays_open its_frame.0 refl) fits_first))
 
 -- ---- any item
 
