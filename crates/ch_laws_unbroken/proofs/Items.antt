@@ -22,7 +22,7 @@ use Rattle.ch_model.specs.declared.step.Step.TheVariants as steps
 use Rattle.ch_model.specs.Host.{front_of, is_ready_front, is_ready, takes, handles, host_next}
 use Rattle.ch_model.specs.HostItems.{heard_answer, reads_frame, reads_on}
 use Rattle.ch_model.specs.HostLinks.{hears}
-use Rattle.ch_model.specs.HostState.{Link, Socket, HostState}
+use Rattle.ch_model.specs.HostState.{Socket, HostState}
 use Rattle.ch_model.specs.HostSteps as host
 use Rattle.ch_model.specs.HostSteps.{Stepped, still, is_socket, link_with, with_socket}
 use Rattle.ch_base.specs.declared.address.Address.{Address}

@@ -1,8 +1,6 @@
 -- Each thing that happens in a journal of many nodes keeps it that nothing broke.
-use Rattle.std.proofs.Common.{◌≡◌, ℕ, ◌+◌, ◌*◌, true, List, [], ◌∷◌, ◌++◌, length, take, refl, ap}
-use Rattle.std.proofs.lemmas.Bool.{and_parts}
+use Rattle.std.proofs.Common.{◌≡◌, ℕ, ◌+◌, ◌*◌, true, List, [], ◌∷◌, length, take, refl, ap}
 use Rattle.std.specs.Prelude.{◌&&◌}
-use Rattle.ch_model.specs.declared.entry.Entry.{Entry}
 use Rattle.ch_model.specs.declared.entry.Entry.TheVariants as entries
 use Rattle.ch_model.specs.declared.line.Line.{Line}
 use Rattle.ch_model.specs.declared.step.Step.{Step}
@@ -18,7 +16,7 @@ use Rattle.ch_laws_many.proofs.Reached.{IsJournal}
 use Rattle.ch_laws_bytes.specs.Streams.{AreAddresses}
 use Rattle.ch_laws_accounts.proofs.ReadAddresses.{all_addresses}
 use Rattle.ch_laws_calls.specs.Calls.{KeepsCalls, Anything, with_host, done_at, joined_in, come_in, fed_in}
-use Rattle.ch_laws_unbroken.specs.Breaks.{is_no_break, NoBreaks, calm}
+use Rattle.ch_laws_unbroken.specs.Breaks.{NoBreaks, calm}
 use Rattle.ch_laws_unbroken.specs.Given.{Given}
 use Rattle.ch_laws_unbroken.proofs.Entries.{unbroken_both, told_unbroken, note_unbroken}
 use Rattle.ch_laws_unbroken.proofs.Items.{calm_next}

@@ -11,7 +11,7 @@ use Rattle.ch_wire.specs.declared.answer.Answer.TheVariants as answers
 use Rattle.ch_wire.specs.declared.frame.Frame.{Frame}
 use Rattle.ch_wire.specs.declared.frame.Frame.TheVariants as frames
 use Rattle.ch_wire.specs.declared.request.Request.{Request}
-use Rattle.ch_light.specs.Ids.{give_of, id_of, close_of, created_of, conn_of, closed_of}
+use Rattle.ch_light.specs.Ids.{give_of, id_of, close_of, conn_of, closed_of}
 use Rattle.ch_light.specs.declared.Connection.{Connection}
 use Rattle.ch_light.specs.declared.error.LightError.{LightError}
 use Rattle.ch_link.specs.Table.{step_of}
