@@ -54,14 +54,19 @@ module _ (cell : Cell) (host : HostState) (end : ℕ) (peer : Address) (frame : 
   -- an end of another link isn't it
   pub not_it : (n : ℕ) (known : Socket) (e : ℕ) (p : Address) → find (is_socket n) cell.host.sockets ≡ Some known → known.user ≡ Some (e, p) → is_key end peer e p ≡ false → (on.sock == n) ≡ false
   not_it n known e p found u off = by_test (on.sock == n) refl where
+    key_of : Option (ℕ × Address) → Bool
+    key_of None = true
+    key_of (Some x) = is_key end peer x.0 x.1
+
+    other_user : ◌≡◌ {A = Option (ℕ × Address)} (Some (end, peer)) (Some (e, p)) → ⊥
+    other_user same = let no : true ≡ false = sym (key_self end peer) ∙ ap key_of same ∙ off in absurd cc
+
     by_test : (b : Bool) → (on.sock == n) ≡ b → b ≡ false
     by_test false h = refl
     by_test true h =
         let both : Some up.0 ≡ Some known = sym up.1 ∙ ap (λ (k : ℕ). find (is_socket k) cell.host.sockets) (number_is on.sock n h) ∙ found in
         let same : up.0 ≡ known = cc in
-        let users : Some (end, peer) ≡ Some (e, p) = sym up.2.user ∙ ap (λ (k : Socket). k.user) same ∙ u in
-        let key : (end, peer) ≡ (e, p) = cc in
-        let no : is_key end peer e p ≡ true = subst (λ (x : ℕ × Address). is_key end peer x.0 x.1 ≡ true) key (key_self end peer) in absurd cc
+        absurd (other_user (sym up.2.user ∙ ap (λ (k : Socket). k.user) same ∙ u))
 
   -- one of the link that hasn't ended is
   pub is_it : (n : ℕ) (known : Socket) → find (is_socket n) cell.host.sockets ≡ Some known → known.user ≡ Some (end, peer) → is_ended known.stage ≡ false → on.sock ≡ n

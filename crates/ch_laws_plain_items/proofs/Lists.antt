@@ -1,13 +1,13 @@
 -- The connections that have arrived at a node, as they are heard of and bound: which of a peer has an opening that isn't read yet.
 use Rattle.std.proofs.Common.{◌≡◌, ◌≤◌, ◌<◌, ℕ, zero, suc, ◌+◌, ◌-◌, ◌*◌, nat_lt, Bool, true, false, cond, not, ◌&&◌, List, [], ◌∷◌, ◌++◌, map, filter, Ok, Err, refl, sym, ap, ◌∙◌, subst, arith, ◌==◌}
 use Rattle.std.proofs.lemmas.Bool.{and_parts}
-use Rattle.std.specs.Prelude.{find, slice_get, is_some, Option, Some, None, Result}
+use Rattle.std.specs.Prelude.{find, slice_get, slice_set, Option, Some, None, Result}
 use Rattle.ch_base.specs.declared.address.Address.{Address}
 use Rattle.ch_light.specs.declared.Connection.{Connection}
 use Rattle.ch_light.specs.declared.TheConstants.{FIRST_ID}
 use Rattle.ch_light.specs.declared.error.LightError.{LightError}
 use Rattle.ch_light.specs.declared.error.LightError.TheVariants as lights
-use Rattle.ch_light.specs.Ids.{is_open_as, id_of, open_number, conn_of, closed_by, closed_of}
+use Rattle.ch_light.specs.Ids.{closed, is_open_as, open_number, conn_of, closed_by, closed_of}
 use Rattle.ch_watch.specs.Same.{same_node}
 use Rattle.ch_model.specs.CellSteps.{is_at, store_node}
 use Rattle.ch_model.specs.NodeArrivals.{rebound}
@@ -98,14 +98,11 @@ first_zero a b e = omega arith
 second_zero : (a b : ℕ) → a + b ≡ 0 → b ≡ 0
 second_zero a b e = omega arith
 
-never_one : 1 ≡ 0 → ⊥
-never_one e = omega arith
-
 -- a connection of the number that hasn't come from the peer is another's
 of_another : (conn : ℕ) (peer : Address) (x : Arrived) → (x.conn == conn) ≡ true → has_come conn peer x ≡ 0 → same_node x.peer peer ≡ false
 of_another conn peer x h e = by_test (same_node x.peer peer) refl (ap (λ b. cond (same_node x.peer peer) (once b) 0) (sym h) ∙ e) where
   by_test : (b : Bool) → same_node x.peer peer ≡ b → cond b (once true) 0 ≡ 0 → b ≡ false
-  by_test true g e = absurd (never_one e)
+  by_test true g e = absurd cc
   by_test false g e = refl
 
 unread_nowhere : (b : Bool) → (b && false) ≡ false
@@ -205,7 +202,7 @@ unfolding closed_of
 closed_open table id n new e = by_number (conn_of table id) refl e where
   by_number : (r : Result ℕ LightError) → conn_of table id ≡ r → closed_by table id r ≡ Ok (n, new) → 1 ≤ open_in table n
   by_number (Err x) h e = absurd cc
-  by_number (Ok m) h e = let same : m ≡ n = cc in found_open table id n (h ∙ ap (λ (k : ℕ). Ok k) same)
+  by_number (Ok m) h e = let same : (m, slice_set table (id - FIRST_ID) (closed m)) ≡ (n, new) = cc in found_open table id n (h ∙ ap (λ (d : ℕ × List Connection). Ok d.0) same)
 
 -- ---- nodes by the number of their endpoint
 

@@ -20,14 +20,14 @@ use Rattle.ch_laws_plain_items.specs.Turns.{unposted, AllPlainNotes}
 record Behind (entry : LocalEntry) (more : Followed) (told : List LocalEntry) (after : Cell) : Type 0 where
   rest : List LocalEntry
   followed : more ≡ Ok (rest, after)
-  as : told ≡ entry ∷ rest
+  spelled : told ≡ entry ∷ rest
 
 behind : (entry : LocalEntry) (more : Followed) (told : List LocalEntry) (after : Cell) → after_entries (entry ∷ []) more ≡ Ok (told, after) → Behind entry more told after
 behind entry (Err stop) told after e = absurd cc
 behind entry (Ok more) told after e = let same : (entry ∷ more.0, more.1) ≡ (told, after) = cc in record {
   rest = more.0;
   followed = ap (λ (c : Cell). Ok (more.0, c)) (ap (λ (x : List LocalEntry × Cell). x.1) same);
-  as = ap (λ (x : List LocalEntry × Cell). x.0) (sym same);
+  spelled = ap (λ (x : List LocalEntry × Cell). x.0) (sym same);
 }
 
 -- ---- acts that are notes
@@ -44,7 +44,7 @@ only_notes end [] cell told after n e = let same : ([], cell) ≡ (told, after) 
 only_notes end (acts.Note note ∷ rest) cell told after n e =
     let b = behind (local.Note note) (acts_on end rest cell) told after e in
     let more = only_notes end rest cell b.rest after n.1 b.followed in
-    subst (λ (l : List LocalEntry). OnlyNotes cell l after) (sym b.as) (record { same = more.same; none = more.none; notes = (n.0, more.notes) })
+    subst (λ (l : List LocalEntry). OnlyNotes cell l after) (sym b.spelled) (record { same = more.same; none = more.none; notes = (n.0, more.notes) })
 only_notes end (acts.Open conn peer ∷ rest) cell told after n e = absurd n
 only_notes end (acts.Put conn payload weight ∷ rest) cell told after n e = absurd n
 only_notes end (acts.Close conn ∷ rest) cell told after n e = absurd n
@@ -56,7 +56,7 @@ pub record Told (done : List Step) (told : List LocalEntry) : Type 0 where
   pub notes : AllPlainNotes told
 
 told_first : (step : Step) (done : List Step) (rest told : List LocalEntry) → unposted (step ∷ done) ≡ step ∷ unposted done → told ≡ local.Step step ∷ rest → Told done rest → Told (step ∷ done) told
-told_first step done rest told is as t = record { steps = ap steps_in as ∙ ap (λ (l : List Step). step ∷ l) t.steps ∙ sym is; notes = subst AllPlainNotes (sym as) t.notes }
+told_first step done rest told is so t = record { steps = ap steps_in so ∙ ap (λ (l : List Step). step ∷ l) t.steps ∙ sym is; notes = subst AllPlainNotes (sym so) t.notes }
 
 pub unheard : (done : List Step) (cell : Cell) (told : List LocalEntry) (after : Cell) → posts_in done ≡ [] → steps_on done cell ≡ Ok (told, after) → (after ≡ cell) × Told done told
 unheard [] cell told after p e = let same : ([], cell) ≡ (told, after) = cc in
@@ -64,25 +64,25 @@ unheard [] cell told after p e = let same : ([], cell) ≡ (told, after) = cc in
 unheard (steps.Post end event ∷ rest) cell told after p e = absurd cc
 unheard (steps.Dial sock end peer ∷ rest) cell told after p e =
     let b = behind (local.Step (steps.Dial sock end peer)) (steps_on rest cell) told after e in
-    let more = unheard rest cell b.rest after p b.followed in (more.0, told_first (steps.Dial sock end peer) rest b.rest told refl b.as more.1)
+    let more = unheard rest cell b.rest after p b.followed in (more.0, told_first (steps.Dial sock end peer) rest b.rest told refl b.spelled more.1)
 unheard (steps.Read sock ∷ rest) cell told after p e =
     let b = behind (local.Step (steps.Read sock)) (steps_on rest cell) told after e in
-    let more = unheard rest cell b.rest after p b.followed in (more.0, told_first (steps.Read sock) rest b.rest told refl b.as more.1)
+    let more = unheard rest cell b.rest after p b.followed in (more.0, told_first (steps.Read sock) rest b.rest told refl b.spelled more.1)
 unheard (steps.Write sock bytes said ∷ rest) cell told after p e =
     let b = behind (local.Step (steps.Write sock bytes said)) (steps_on rest cell) told after e in
-    let more = unheard rest cell b.rest after p b.followed in (more.0, told_first (steps.Write sock bytes said) rest b.rest told refl b.as more.1)
+    let more = unheard rest cell b.rest after p b.followed in (more.0, told_first (steps.Write sock bytes said) rest b.rest told refl b.spelled more.1)
 unheard (steps.Up sock ∷ rest) cell told after p e =
     let b = behind (local.Step (steps.Up sock)) (steps_on rest cell) told after e in
-    let more = unheard rest cell b.rest after p b.followed in (more.0, told_first (steps.Up sock) rest b.rest told refl b.as more.1)
+    let more = unheard rest cell b.rest after p b.followed in (more.0, told_first (steps.Up sock) rest b.rest told refl b.spelled more.1)
 unheard (steps.Down sock ∷ rest) cell told after p e =
     let b = behind (local.Step (steps.Down sock)) (steps_on rest cell) told after e in
-    let more = unheard rest cell b.rest after p b.followed in (more.0, told_first (steps.Down sock) rest b.rest told refl b.as more.1)
+    let more = unheard rest cell b.rest after p b.followed in (more.0, told_first (steps.Down sock) rest b.rest told refl b.spelled more.1)
 unheard (steps.Left sock ∷ rest) cell told after p e =
     let b = behind (local.Step (steps.Left sock)) (steps_on rest cell) told after e in
-    let more = unheard rest cell b.rest after p b.followed in (more.0, told_first (steps.Left sock) rest b.rest told refl b.as more.1)
+    let more = unheard rest cell b.rest after p b.followed in (more.0, told_first (steps.Left sock) rest b.rest told refl b.spelled more.1)
 unheard (steps.Broke end peer why ∷ rest) cell told after p e =
     let b = behind (local.Step (steps.Broke end peer why)) (steps_on rest cell) told after e in
-    let more = unheard rest cell b.rest after p b.followed in (more.0, told_first (steps.Broke end peer why) rest b.rest told refl b.as more.1)
+    let more = unheard rest cell b.rest after p b.followed in (more.0, told_first (steps.Broke end peer why) rest b.rest told refl b.spelled more.1)
 
 -- ---- steps of which one does
 
@@ -93,7 +93,7 @@ pub record Heard (end : ℕ) (event : Event) (done : List Step) (cell : Cell) (t
   pub so_told : steps_in heard ≡ [] → AllPlainNotes heard → Told done told
 
 heard_first : (end : ℕ) (event : Event) (step : Step) (done : List Step) (cell : Cell) (rest told : List LocalEntry) (after : Cell) → unposted (step ∷ done) ≡ step ∷ unposted done → told ≡ local.Step step ∷ rest → Heard end event done cell rest after → Heard end event (step ∷ done) cell told after
-heard_first end event step done cell rest told after is as h = record { heard = h.heard; followed = h.followed; so_told = λ s n. told_first step done rest told is as (h.so_told s n) }
+heard_first end event step done cell rest told after is so h = record { heard = h.heard; followed = h.followed; so_told = λ s n. told_first step done rest told is so (h.so_told s n) }
 
 told_behind : (done : List Step) (heard rest : List LocalEntry) → steps_in heard ≡ [] → AllPlainNotes heard → Told done rest → Told done (heard ++ rest)
 told_behind done [] rest s n t = t
@@ -108,12 +108,12 @@ last_heard end event rest cell told after (Ok first) is p e = by_rest (steps_on 
   by_rest (Ok more) m e =
       let same : (first.0 ++ more.0, more.1) ≡ (told, after) = cc in
       let u = unheard rest first.1 more.0 more.1 p m in
-      let as : first.0 ++ more.0 ≡ told = ap (λ (x : List LocalEntry × Cell). x.0) same in
+      let so : first.0 ++ more.0 ≡ told = ap (λ (x : List LocalEntry × Cell). x.0) same in
       let at : first.1 ≡ after = sym u.0 ∙ ap (λ (x : List LocalEntry × Cell). x.1) same in
       record {
         heard = first.0;
         followed = is ∙ ap (λ (c : Cell). Ok (first.0, c)) at;
-        so_told = λ s n. subst (Told (steps.Post end event ∷ rest)) as (as_posted (told_behind rest first.0 more.0 s n u.1));
+        so_told = λ s n. subst (Told (steps.Post end event ∷ rest)) so (as_posted (told_behind rest first.0 more.0 s n u.1));
       }
     where
       as_posted : {l : List LocalEntry} → Told rest l → Told (steps.Post end event ∷ rest) l
@@ -122,30 +122,30 @@ last_heard end event rest cell told after (Ok first) is p e = by_rest (steps_on 
 pub heard : (end : ℕ) (event : Event) (done : List Step) (cell : Cell) (told : List LocalEntry) (after : Cell) → posts_in done ≡ (end, event) ∷ [] → steps_on done cell ≡ Ok (told, after) → Heard end event done cell told after
 heard end event [] cell told after p e = absurd cc
 heard end event (steps.Post at said ∷ rest) cell told after p e =
-    let first : (at, said) ≡ (end, event) = cc in
     let none : posts_in rest ≡ [] = cc in
+    let first : ◌≡◌ {A = ℕ × Event} (at, said) (end, event) = cc in
     subst (λ (x : ℕ × Event). Heard x.0 x.1 (steps.Post at said ∷ rest) cell told after) first (last_heard at said rest cell told after (posted at said cell) refl none e)
 heard end event (steps.Dial sock at peer ∷ rest) cell told after p e =
     let b = behind (local.Step (steps.Dial sock at peer)) (steps_on rest cell) told after e in
-    heard_first end event (steps.Dial sock at peer) rest cell b.rest told after refl b.as (heard end event rest cell b.rest after p b.followed)
+    heard_first end event (steps.Dial sock at peer) rest cell b.rest told after refl b.spelled (heard end event rest cell b.rest after p b.followed)
 heard end event (steps.Read sock ∷ rest) cell told after p e =
     let b = behind (local.Step (steps.Read sock)) (steps_on rest cell) told after e in
-    heard_first end event (steps.Read sock) rest cell b.rest told after refl b.as (heard end event rest cell b.rest after p b.followed)
+    heard_first end event (steps.Read sock) rest cell b.rest told after refl b.spelled (heard end event rest cell b.rest after p b.followed)
 heard end event (steps.Write sock bytes said ∷ rest) cell told after p e =
     let b = behind (local.Step (steps.Write sock bytes said)) (steps_on rest cell) told after e in
-    heard_first end event (steps.Write sock bytes said) rest cell b.rest told after refl b.as (heard end event rest cell b.rest after p b.followed)
+    heard_first end event (steps.Write sock bytes said) rest cell b.rest told after refl b.spelled (heard end event rest cell b.rest after p b.followed)
 heard end event (steps.Up sock ∷ rest) cell told after p e =
     let b = behind (local.Step (steps.Up sock)) (steps_on rest cell) told after e in
-    heard_first end event (steps.Up sock) rest cell b.rest told after refl b.as (heard end event rest cell b.rest after p b.followed)
+    heard_first end event (steps.Up sock) rest cell b.rest told after refl b.spelled (heard end event rest cell b.rest after p b.followed)
 heard end event (steps.Down sock ∷ rest) cell told after p e =
     let b = behind (local.Step (steps.Down sock)) (steps_on rest cell) told after e in
-    heard_first end event (steps.Down sock) rest cell b.rest told after refl b.as (heard end event rest cell b.rest after p b.followed)
+    heard_first end event (steps.Down sock) rest cell b.rest told after refl b.spelled (heard end event rest cell b.rest after p b.followed)
 heard end event (steps.Left sock ∷ rest) cell told after p e =
     let b = behind (local.Step (steps.Left sock)) (steps_on rest cell) told after e in
-    heard_first end event (steps.Left sock) rest cell b.rest told after refl b.as (heard end event rest cell b.rest after p b.followed)
+    heard_first end event (steps.Left sock) rest cell b.rest told after refl b.spelled (heard end event rest cell b.rest after p b.followed)
 heard end event (steps.Broke at peer why ∷ rest) cell told after p e =
     let b = behind (local.Step (steps.Broke at peer why)) (steps_on rest cell) told after e in
-    heard_first end event (steps.Broke at peer why) rest cell b.rest told after refl b.as (heard end event rest cell b.rest after p b.followed)
+    heard_first end event (steps.Broke at peer why) rest cell b.rest told after refl b.spelled (heard end event rest cell b.rest after p b.followed)
 
 -- ---- what is written and dialed of that
 

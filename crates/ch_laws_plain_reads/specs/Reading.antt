@@ -1,5 +1,5 @@
 -- What a plain host does as it reads an item: what it posts, what it changes of the connections that have arrived, and what it has read at each end.
-use Rattle.std.specs.Prelude.{◌≡◌, ◌⊎◌, ℕ, cond, true, false, ◌==◌, List, [], ◌∷◌, find, Option, Some, None, Ok}
+use Rattle.std.specs.Prelude.{◌≡◌, ◌⊎◌, ℕ, Bool, cond, true, false, ◌==◌, List, [], ◌∷◌, find, Some, None, Ok}
 use Rattle.ch_base.specs.declared.address.Address.{Address}
 use Rattle.ch_base.specs.declared.event.Event.{Event}
 use Rattle.ch_base.specs.declared.event.Event.TheVariants as events
@@ -8,7 +8,6 @@ use Rattle.ch_wire.specs.declared.frame.Frame.{Frame}
 use Rattle.ch_wire.specs.declared.frame.Frame.TheVariants as frames
 use Rattle.ch_reader.specs.declared.item.Item.{Item}
 use Rattle.ch_light.specs.Ids.{created_of, closed_of, conn_of}
-use Rattle.ch_light.specs.declared.Connection.{Connection}
 use Rattle.ch_link.specs.declared.LinkState.TheVariants.{Up}
 use Rattle.ch_model.specs.declared.step.Step.{Step}
 use Rattle.ch_model.specs.declared.step.Step.TheVariants as steps
