@@ -1,5 +1,5 @@
 -- What the nodes of a cell make of what its host has read.
-use Rattle.std.proofs.Common.{◌≡◌, ℕ, Bool, true, false, cond, ◌&&◌, List, [], ◌∷◌, ◌++◌, Ok, Err, inl, inr, refl, sym, ap, ◌∙◌, subst, ◌==◌}
+use Rattle.std.proofs.Common.{◌≡◌, ℕ, Bool, true, false, cond, ◌&&◌, List, [], ◌∷◌, Ok, Err, inl, inr, refl, sym, ap, ◌∙◌, subst, ◌==◌}
 use Rattle.std.specs.Prelude.{◌⊎◌, find, Option, Some, None, Result}
 use Rattle.ch_base.specs.declared.address.Address.{Address}
 use Rattle.ch_base.specs.declared.event.Event.{Event}
@@ -17,19 +17,18 @@ use Rattle.ch_model.specs.HostItems.{next_arrival}
 use Rattle.ch_model.specs.HostState.{Socket, HostState}
 use Rattle.ch_model.specs.HostSteps.{link_with, is_socket}
 use Rattle.ch_model.specs.Node.{node_event}
-use Rattle.ch_model.specs.NodeState.{NodeState, Arrived}
+use Rattle.ch_model.specs.NodeState.{NodeState}
 use Rattle.ch_model.specs.Stages.{is_ended}
 use Rattle.ch_model.specs.WorldState.{Cell}
-use Rattle.ch_laws_bytes.specs.Streams.{Reader, reader_in}
+use Rattle.ch_laws_bytes.specs.Streams.{reader_in}
 use Rattle.ch_laws_connections.specs.Arrivals.{Meets, MeetsAs, CellMeets}
 use Rattle.ch_laws_connections.proofs.Cells.{stored_there, stored_other}
 use Rattle.ch_laws_fits.specs.Turns.{bytes_at, NoDials}
 use Rattle.ch_laws_links.specs.Naming.{IsNaming}
 use Rattle.ch_laws_log.specs.HostEnds.{steps_in}
 use Rattle.ch_laws_log.proofs.Stored.{number_is, number_same}
-use Rattle.ch_laws_writes.specs.Dues.{Due, due_at}
+use Rattle.ch_laws_writes.specs.Dues.{due_at}
 use Rattle.ch_laws_writes.proofs.Ordered.{is_key, at_key}
-use Rattle.ch_laws_plain_nodes.specs.Acts.{AreNotes}
 use Rattle.ch_laws_plain.specs.Plain.{is_unread_of, arrived_in, id_for, pending_for, pending_at, NodeIsPlain, CellIsPlain}
 use Rattle.ch_laws_plain.specs.Streams.{PlainStep}
 use Rattle.ch_laws_plain.specs.Talks.{HostIsPlain}
@@ -226,18 +225,18 @@ module _ (cell : Cell) (host : HostState) (done : List Step) (told : List LocalE
   opens : Opens cell.host done host → After cell done host told after
   opens w = with_one w.end w.peer (events.ConnectionOpened (next_arrival cell.host w.end) w.peer) (frames.Created w.id ∷ []) (λ n. cond (w.on.sock == n) (frames.Created w.id ∷ []) []) w.posted (beside_frame cell host w.end w.peer (frames.Created w.id) s w.on)
       (λ there acts next f said. let b = begins w.end w.peer (frames.Created w.id) there f w.on in
-          hears_comes cell.host w.end w.peer there.1 (p.nodes w.end there f) (meets w.end there f) w.id (link_with host w.end w.peer).created b.0 acts next w.created b.1 said)
+      hears_comes cell.host w.end w.peer there.1 (p.nodes w.end there f) (meets w.end there f) w.id (link_with host w.end w.peer).created b.0 acts next w.created b.1 said)
 
   closes : Closes cell.host done host → After cell done host told after
   closes w = with_one w.end w.peer (events.ConnectionClosed w.conn) (frames.Closed w.id ∷ []) (λ n. cond (w.on.sock == n) (frames.Closed w.id ∷ []) []) w.posted (beside_frame cell host w.end w.peer (frames.Closed w.id) s w.on)
       (λ there acts next f said. let b = begins w.end w.peer (frames.Closed w.id) there f w.on in
-          hears_goes cell.host w.end w.peer there.1 (p.nodes w.end there f) (meets w.end there f) w.id w.conn (link_with host w.end w.peer).created b.0 acts next w.created b.1 said)
+      hears_goes cell.host w.end w.peer there.1 (p.nodes w.end there f) (meets w.end there f) w.id w.conn (link_with host w.end w.peer).created b.0 acts next w.created b.1 said)
 
   receives : Receives cell.host done host → After cell done host told after
   receives w = with_one w.end w.peer (events.Received w.conn w.payload) (frames.Data w.id w.payload ∷ []) (λ n. cond (w.on.sock == n) (frames.Data w.id w.payload ∷ []) []) w.posted (beside_frame cell host w.end w.peer (frames.Data w.id w.payload) s w.on)
       (λ there acts next f said. let b = begins w.end w.peer (frames.Data w.id w.payload) there f w.on in
-          subst (λ (c : List Connection). HearsPlainly w.peer c (frames.Data w.id w.payload ∷ []) there.1 acts next) (sym w.created)
-          (hears_payload_so cell.host w.end w.peer there.1 (p.nodes w.end there f) (meets w.end there f) w.id w.conn w.payload w.found acts next said b.0 b.1))
+      subst (λ (c : List Connection). HearsPlainly w.peer c (frames.Data w.id w.payload ∷ []) there.1 acts next) (sym w.created)
+      (hears_payload_so cell.host w.end w.peer there.1 (p.nodes w.end there f) (meets w.end there f) w.id w.conn w.payload w.found acts next said b.0 b.1))
 
   loses : Loses cell.host done host → After cell done host told after
   loses w = with_one w.end w.peer (events.ConnectionLost w.peer w.why) [] w.frames w.posted (beside_lost cell host done w)

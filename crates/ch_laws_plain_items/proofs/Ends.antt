@@ -1,25 +1,22 @@
 -- What is read at the ends of a host's sockets: which end a frame is read at, and what is plain behind it.
-use Rattle.std.proofs.Common.{◌≡◌, ℕ, Bool, true, false, cond, ◌&&◌, List, [], ◌∷◌, ◌++◌, inl, inr, refl, sym, ap, ◌∙◌, subst, ◌==◌}
+use Rattle.std.proofs.Common.{◌≡◌, ℕ, Bool, true, false, cond, List, [], ◌∷◌, ◌++◌, inl, inr, refl, sym, ap, ◌∙◌, subst, ◌==◌}
 use Rattle.std.specs.Prelude.{◌⊎◌, find, Option, Some, None}
 use Rattle.ch_base.specs.declared.address.Address.{Address}
-use Rattle.ch_reader.specs.declared.item.Expected.{Expected}
 use Rattle.ch_wire.specs.declared.frame.Frame.{Frame}
 use Rattle.ch_light.specs.Ids.{id_of}
 use Rattle.ch_light.specs.declared.Connection.{Connection}
-use Rattle.ch_link.specs.declared.LinkState.{LinkState}
 use Rattle.ch_link.specs.declared.LinkState.TheVariants.{Dialing, Up}
 use Rattle.ch_model.specs.CellSteps.{is_at}
 use Rattle.ch_model.specs.HostState.{Socket, HostState}
 use Rattle.ch_model.specs.HostSteps.{link_with, is_socket}
 use Rattle.ch_model.specs.NodeState.{Arrived}
-use Rattle.ch_model.specs.Stages.{Stage, is_ended}
+use Rattle.ch_model.specs.Stages.{is_ended}
 use Rattle.ch_model.specs.WorldState.{Cell}
-use Rattle.ch_laws_bytes.specs.Streams.{Reader, reader_in}
+use Rattle.ch_laws_bytes.specs.Streams.{reader_in}
 use Rattle.ch_laws_fits.specs.Fit.{frames_in}
 use Rattle.ch_laws_links.specs.Naming.{IsNaming, IsDialedBy, IsUpFor}
 use Rattle.ch_laws_links.proofs.Says.{risen, used}
 use Rattle.ch_laws_log.proofs.Stored.{number_is, number_same}
-use Rattle.ch_laws_reads.specs.Reads.{AreRead}
 use Rattle.ch_laws_writes.proofs.Ordered.{is_key, key_self}
 use Rattle.ch_laws_plain.specs.Plain.{is_unread_of, arrived_in, id_for, pending_for, pending_by, pending_in, pending_at}
 use Rattle.ch_laws_plain.specs.Streams.{PlainStep, PlainOn}

@@ -1,6 +1,6 @@
 -- What is plain behind frames that were read.
 use Rattle.std.proofs.Common.{◌≡◌, ℕ, List, [], ◌∷◌, ◌++◌, inl, inr, refl, sym, subst}
-use Rattle.std.specs.Prelude.{◌⊎◌, Option, Some, None}
+use Rattle.std.specs.Prelude.{Option, Some, None}
 use Rattle.ch_wire.specs.declared.frame.Frame.{Frame}
 use Rattle.ch_wire.specs.declared.frame.Frame.TheVariants as frames
 use Rattle.ch_laws_plain.specs.Streams.{PlainStep, PlainOn}

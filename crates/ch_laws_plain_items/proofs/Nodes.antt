@@ -21,7 +21,7 @@ use Rattle.ch_laws_connections.specs.Tables.{open_in}
 use Rattle.ch_laws_connections.specs.Senders.{total}
 use Rattle.ch_laws_connections.specs.Arrivals.{made_at, made_so, has_come, IsOfArrived, Meets}
 use Rattle.ch_laws_connections.proofs.GivenIn.{without_id}
-use Rattle.ch_laws_plain_nodes.specs.Plain.{IsPlain, IsPlainOpening, IsBound, IsRead}
+use Rattle.ch_laws_plain_nodes.specs.Plain.{IsPlain, IsPlainOpening, IsRead}
 use Rattle.ch_laws_plain_nodes.specs.Acts.{AreNotes}
 use Rattle.ch_laws_plain_nodes.specs.Does.{Tells, Hears}
 use Rattle.ch_laws_plain_nodes.proofs.Events.{hears_opened, hears_closed, reads_opening, hears_payload, loses, Loses, bound_read}
