@@ -3,4 +3,4 @@ pub mod Apart
 pub mod Agree
 pub mod Meets
 pub mod Asked
-pub mod Reads
+pub mod Begins

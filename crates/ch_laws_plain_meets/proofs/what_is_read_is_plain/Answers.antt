@@ -1,4 +1,4 @@
-use Rattle.ch_laws_plain_meets.proofs.Reads.{reads_plain, peers_read_plain}
+use Rattle.ch_laws_plain_meets.proofs.Begins.{reads_plain, peers_read_plain}
 use Rattle.ch_laws_plain_meets.proofs.what_is_read_is_plain.Goals as goal
 
 pub returns-clause-asked : goal.returns-clause-asked
