@@ -9,11 +9,13 @@ use Rattle.ch_laws_calls.specs.Peers.{Peers}
 use Rattle.ch_laws_calls.specs.Scenes.{Raced}
 use Rattle.ch_laws_connections.specs.Arrivals.{CellMeets}
 use Rattle.ch_laws_connections.specs.Fits.{CellHolds}
+use Rattle.ch_laws_live.specs.Lives.{IsLively}
 use Rattle.ch_laws_many.specs.ManyLines.{AreNamedApart}
 use Rattle.ch_laws_many.proofs.Reached.{IsJournal}
 use Rattle.ch_laws_plain.specs.Plain.{WorldIsPlain}
 use Rattle.ch_laws_plain_logs.specs.Plain.{IsPlain}
 use Rattle.ch_laws_raced.specs.Given.{Given, All}
+use Rattle.ch_laws_unbroken.specs.Breaks.{NoBreaks}
 
 -- the journal is of many nodes: with different names and addresses that can be spelled
 pub record IsOfNodes (journal : List Line) : Type 0 where
@@ -25,12 +27,14 @@ pub record IsOfNodes (journal : List Line) : Type 0 where
 abbrev pub AllMeet : List Entry → World → Type 0
 AllMeet log world = (place : ℕ) (cell : Cell × ℕ) → slice_get world.cells place ≡ Some cell → CellHolds cell.0 × CellMeets cell.0
 
--- Hosts and world agree (`all`, and `given` for each two nodes), each two nodes are a pair of the race, all dials are between two nodes, nodes
--- and hosts agree, streams are plain, and so are all entries.
+-- Hosts and world agree (`all`, and `given` for each two nodes), each two nodes are a pair of the race, of which at most one socket is live
+-- and nothing breaks, all dials are between two nodes, nodes and hosts agree, streams are plain, and so are all entries.
 pub record Standing (journal : List Line) (log : List Entry) (world : World) : Type 0 where
   pub all : All journal log world
   pub each_pair : Given journal log world
   pub raced : Raced journal log world
+  pub lively : IsLively log
+  pub unbroken : NoBreaks log
   pub peers : Peers journal log world
   pub meets : AllMeet log world
   pub plain : WorldIsPlain journal world

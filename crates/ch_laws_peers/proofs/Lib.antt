@@ -1,0 +1,4 @@
+pub mod Kinds
+pub mod Dialed
+pub mod Plainly
+pub mod Together
