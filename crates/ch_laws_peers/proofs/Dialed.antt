@@ -31,7 +31,7 @@ use Rattle.ch_laws_plain_lines.proofs.Joined.{joined_plain}
 use Rattle.ch_laws_plain_lines.proofs.Turned.{marked_plain, ended_plain, item_plain}
 use Rattle.ch_laws_plain_meets.specs.Meets.{AllMeet}
 use Rattle.ch_laws_plain_meets.proofs.Meets.{meets_kept, fresh_meets}
-use Rattle.ch_laws_plain_meets.proofs.Reads.{peers_read_plain}
+use Rattle.ch_laws_plain_meets.proofs.Begins.{peers_read_plain}
 use Rattle.ch_laws_plain_reads.proofs.Alone.{next_dials_none, ended_dials_none}
 use Rattle.ch_laws_plain_reads.proofs.Turns as reads
 use Rattle.ch_laws_raced.specs.Given.{All}

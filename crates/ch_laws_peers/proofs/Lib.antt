@@ -1,4 +1,4 @@
-pub mod Kinds
+pub mod Told
 pub mod Dialed
 pub mod Plainly
 pub mod Together

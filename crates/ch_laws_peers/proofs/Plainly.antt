@@ -1,5 +1,5 @@
 -- Each turn keeps the log plain, where nothing breaks.
-use Rattle.std.proofs.Common.{◌≡◌, ℕ, Bool, true, ◌&&◌, List, [], ◌∷◌, ◌++◌, length, Ok, Err, refl, sym, ap, ◌∙◌, subst}
+use Rattle.std.proofs.Common.{◌≡◌, ℕ, ◌+◌, Bool, true, ◌&&◌, List, [], ◌∷◌, ◌++◌, length, Ok, Err, refl, sym, ap, ◌∙◌, subst}
 use Rattle.std.proofs.lemmas.Bool.{and_parts}
 use Rattle.std.proofs.lemmas.List.Folds.{list_all-append}
 use Rattle.std.specs.List.{list_all}
@@ -38,7 +38,7 @@ use Rattle.ch_laws_plain_nodes.proofs.Steps.{given_so}
 use Rattle.ch_laws_turns.specs.Turns.{IsAsked, end_in, told_on, KeepsTurns}
 use Rattle.ch_laws_unbroken.specs.Breaks.{is_no_break, NoBreaks}
 use Rattle.ch_laws_peers.proofs.Dialed.{Known, item_reads, end_reads}
-use Rattle.ch_laws_peers.proofs.Kinds.{no_notes, told_plain, plain_told}
+use Rattle.ch_laws_peers.proofs.Told.{no_notes, told_plain, plain_told}
 
 -- what is told behind a log that has no break has none
 calm_behind : (log more : List Entry) → NoBreaks (log ++ more) → NoBreaks more
