@@ -2,3 +2,4 @@ pub mod Told
 pub mod Dialed
 pub mod Plainly
 pub mod Together
+pub mod Logs

@@ -263,13 +263,12 @@ taken_from_ports before x e = refl
 
 -- ---- all of it
 
-pub plainly_lawful : (journal : List Line) (log : List Entry) → HasPlainLines journal → IsPlain log → WritesNoNodes journal log → PlainlyLawful journal log
-plainly_lawful journal log lines plain written = record {
+pub plainly_lawful : (journal : List Line) (log : List Entry) → HasPlainLines journal → IsPlain log → PlainlyLawful journal log
+plainly_lawful journal log lines plain = record {
   breaks = all_breaks journal log plain;
   notices = all_notices log plain;
   references = all_references journal log plain;
   names = all_names log plain;
-  of_nodes = all_of_nodes journal log plain written;
   whole = all_whole journal log plain;
   next_epochs = each_plain begins_next_epoch epochs_begin log plain;
   down_from_up = each_plain falls_from_up downs_from_up log plain;

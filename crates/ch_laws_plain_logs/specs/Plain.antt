@@ -10,7 +10,6 @@ use Rattle.ch_model.specs.declared.entry.Entry.TheVariants as entries
 use Rattle.ch_model.specs.declared.line.Line.{Line}
 use Rattle.ch_model.specs.declared.line.What.{What}
 use Rattle.ch_model.specs.declared.line.What.TheVariants as lines
-use Rattle.ch_model.specs.Accounts.{IsBroughtAbout}
 use Rattle.ch_model.specs.AccountsFrames.{Saying, data_written, datas}
 use Rattle.ch_model.specs.AccountsItems.{first_payload, opens_nodes}
 use Rattle.ch_model.specs.AccountsMessages.{opens_a_pair}
@@ -103,14 +102,13 @@ said_by x y (entries.Said by to epoch index mark body) =
     then Some (record { by = by; to = to; epoch = epoch; index = index; mark = mark; body = body }) else None
 said_by x y entry = None
 
--- What is promised of a log, as far as it follows from its entries' kinds: of breaks, notices, references, names, messages
--- from node to node and what is whole at a settled all; of the others the fields that are named here.
+-- What is promised of a log, as far as it follows from its entries' kinds: of breaks, notices, references, names and what is whole at
+-- a settled all; of the others the fields that are named here.
 pub record PlainlyLawful (journal : List Line) (log : List Entry) : Type 0 where
   pub breaks : HasLicensedBreaks journal log
   pub notices : HasLawfulNotices log
   pub references : FollowsReferences journal log
   pub names : FollowsNames log
-  pub of_nodes : IsBroughtAbout journal log
   pub whole : SettlesWhole journal log
   pub next_epochs : IsTrue (each begins_next_epoch log)
   pub down_from_up : IsTrue (each falls_from_up log)

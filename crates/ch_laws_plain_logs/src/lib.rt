@@ -21,6 +21,7 @@ ghost use Rattle.ch_model.specs.declared.name.RefName.{RefName};
 ghost use Rattle.ch_model.specs.declared.name.SockName.{SockName};
 ghost use Rattle.ch_model.specs.declared.name.TargetName.{TargetName};
 ghost use Rattle.ch_model.specs.declared.name.TargetName.TheVariants as targets;
+ghost use Rattle.ch_model.specs.Accounts.{IsBroughtAbout};
 ghost use Rattle.ch_model.specs.AccountsFrames.{datas, is_user_data, user_data, said_between, next_carried};
 ghost use Rattle.ch_model.specs.AccountsItems.{first_payload, opens_nodes};
 ghost use Rattle.ch_model.specs.Declarations.{peer, is_node, is_stranger};
@@ -35,15 +36,16 @@ ghost use Rattle.ch_model.specs.Watches.{watch_of};
 ghost use Rattle.ch_laws_plain_logs.specs.Plain.{IsPlain, HasPlainLines, WritesNoNodes, writes_pairs, HasNoNodePayloads, said_by, PlainlyLawful};
 
 /// A log of plain entries is lawful as far as their kinds tell: in its breaks, notices, references and names, of which it
-/// has none; in what is whole where it settles, as it never does; in its messages from node to node, where no payload that is
-/// written opens a connection from node to node; and in its reconnects, dooms, ports and ends that go down. Where the lines
-/// of its journal are plain too, no feeding stands in a settle, and no line waits for a settled.
+/// has none; in what is whole where it settles, as it never does; and in its reconnects, dooms, ports and ends that go down. Where the
+/// lines of its journal are plain too, no feeding stands in a settle, and no line waits for a settled. Where no payload that is written
+/// opens a connection from node to node, all that such connections bring about has its cause: nothing is brought about so.
 ///
 /// The rest of what is promised of a log isn't said here, since it needs more than kinds: which number a message or a process
 /// has, that what is got was said before, who lives, what a mailbox has, what ends a process, when a socket may be dialed or
 /// be up, which answer each line has, and what the bytes are that are written and fed.
 pub fn plain_logs_are_lawful()
-    ensures { (journal : List Line) (log : List Entry) → HasPlainLines journal → IsPlain log → WritesNoNodes journal log → PlainlyLawful journal log }
+    ensures kinds { (journal : List Line) (log : List Entry) → HasPlainLines journal → IsPlain log → PlainlyLawful journal log }
+    ensures of_nodes { (journal : List Line) (log : List Entry) → IsPlain log → WritesNoNodes journal log → IsBroughtAbout journal log }
 {}
 
 /// What a log of plain entries hasn't: no link breaks, so that no pair of processes waits to be reconnected; each pair is in
