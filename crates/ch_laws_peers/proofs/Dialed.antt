@@ -1,7 +1,6 @@
 -- Each turn keeps that all dials are between two nodes of the journal, and that the world is plain.
 use Rattle.std.proofs.Common.{◌≡◌, ℕ, List, Ok}
 use Rattle.std.specs.Prelude.{slice_get, Some}
-use Rattle.ch_base.specs.declared.address.Address.{Address}
 use Rattle.ch_model.specs.declared.entry.Entry.{Entry}
 use Rattle.ch_model.specs.declared.line.Line.{Line}
 use Rattle.ch_model.specs.declared.local.LocalEntry.{LocalEntry}
@@ -30,13 +29,12 @@ use Rattle.ch_laws_plain_lines.proofs.Handed.{came_plain, fed_plain}
 use Rattle.ch_laws_plain_lines.proofs.Joined.{joined_plain}
 use Rattle.ch_laws_plain_lines.proofs.Turned.{marked_plain, ended_plain, item_plain}
 use Rattle.ch_laws_plain_meets.specs.Meets.{AllMeet}
-use Rattle.ch_laws_plain_meets.proofs.Meets.{meets_kept, fresh_meets}
 use Rattle.ch_laws_plain_meets.proofs.Begins.{peers_read_plain}
 use Rattle.ch_laws_plain_reads.proofs.Alone.{next_dials_none, ended_dials_none}
 use Rattle.ch_laws_plain_reads.proofs.Turns as reads
 use Rattle.ch_laws_raced.specs.Given.{All}
 use Rattle.ch_laws_turns.specs.Turns.{KeepsTurns}
-use Rattle.ch_laws_turns.proofs.Together.{weaker, beside}
+use Rattle.ch_laws_turns.proofs.Together.{beside}
 use Rattle.ch_laws_users.proofs.Kept.{users_used}
 use Rattle.ch_laws_writes.specs.Orderly.{IsOrderly}
 

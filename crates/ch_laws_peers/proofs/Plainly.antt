@@ -1,41 +1,35 @@
 -- Each turn keeps the log plain, where nothing breaks.
-use Rattle.std.proofs.Common.{◌≡◌, ℕ, ◌+◌, Bool, true, ◌&&◌, List, [], ◌∷◌, ◌++◌, length, Ok, Err, refl, sym, ap, ◌∙◌, subst}
+use Rattle.std.proofs.Common.{◌≡◌, ℕ, ◌+◌, true, ◌&&◌, List, [], ◌∷◌, ◌++◌, length, Ok, refl, sym, ap, ◌∙◌}
 use Rattle.std.proofs.lemmas.Bool.{and_parts}
 use Rattle.std.proofs.lemmas.List.Folds.{list_all-append}
 use Rattle.std.specs.List.{list_all}
 use Rattle.std.specs.Prelude.{find, slice_get, Some}
-use Rattle.ch_static.specs.declared.command.Command.{Command}
 use Rattle.ch_model.specs.declared.act.Act.{Act}
 use Rattle.ch_model.specs.declared.entry.Entry.{Entry}
 use Rattle.ch_model.specs.declared.entry.Entry.TheVariants as entries
 use Rattle.ch_model.specs.declared.line.Line.{Line}
-use Rattle.ch_model.specs.declared.line.What.{What}
 use Rattle.ch_model.specs.declared.local.LocalEntry.{LocalEntry}
-use Rattle.ch_model.specs.declared.name.ProcName.{ProcName}
-use Rattle.ch_model.specs.declared.step.Step.{Step}
 use Rattle.ch_model.specs.Cell.{room_for}
 use Rattle.ch_model.specs.CellSteps.{is_at, with_node, acts_on, told_steps}
-use Rattle.ch_model.specs.HostState.{HostState}
-use Rattle.ch_model.specs.Node.{node_make, node_command, target_node}
+use Rattle.ch_model.specs.Node.{node_make, target_node}
 use Rattle.ch_model.specs.NodeState.{NodeState}
 use Rattle.ch_model.specs.World.{names_of}
 use Rattle.ch_model.specs.WorldHappenings.{with_cell}
 use Rattle.ch_model.specs.WorldState.{Cell, World}
 use Rattle.ch_model.specs.WorldSteps.{all_told}
 use Rattle.ch_laws_bytes.specs.Streams.{AreAddresses}
-use Rattle.ch_laws_calls.specs.Calls.{Claim, Both, with_host, done_at, joined_in, come_in, fed_in}
+use Rattle.ch_laws_calls.specs.Calls.{Claim, with_host, joined_in, come_in, fed_in}
 use Rattle.ch_laws_many.proofs.Reached.{IsJournal}
 use Rattle.ch_laws_plain_asks.proofs.Commands.{plain_command}
 use Rattle.ch_laws_plain_asks.proofs.Turns.{asks}
 use Rattle.ch_laws_plain_items.specs.Turns.{AllPlainNotes}
 use Rattle.ch_laws_plain_logs.specs.Plain.{is_plain, IsPlain}
-use Rattle.ch_laws_plain_nodes.specs.Acts.{ArePlain}
 use Rattle.ch_laws_plain_nodes.specs.Does.{Makes}
 use Rattle.ch_laws_plain_nodes.specs.Plain.{IsPlain as IsPlainNode}
 use Rattle.ch_laws_plain_nodes.proofs.Calls.{makes, told_does}
 use Rattle.ch_laws_plain_nodes.proofs.Commands.{on_command}
 use Rattle.ch_laws_plain_nodes.proofs.Steps.{given_so}
-use Rattle.ch_laws_turns.specs.Turns.{IsAsked, end_in, told_on, KeepsTurns}
+use Rattle.ch_laws_turns.specs.Turns.{end_in, KeepsTurns}
 use Rattle.ch_laws_unbroken.specs.Breaks.{is_no_break, NoBreaks}
 use Rattle.ch_laws_peers.proofs.Dialed.{Known, item_reads, end_reads}
 use Rattle.ch_laws_peers.proofs.Told.{no_notes, told_plain, plain_told}

@@ -1,9 +1,6 @@
 -- All claims together, turn by turn: and so all stand after any lines, whatever is dialed.
-use Rattle.std.proofs.Common.{◌≡◌, ◌++◌, ℕ, true, List, [], ◌∷◌, Ok, refl, sym, ap, ◌∙◌, subst}
-use Rattle.std.proofs.lemmas.Bool.{and_parts}
-use Rattle.std.proofs.lemmas.List.Folds.{list_all-append}
+use Rattle.std.proofs.Common.{◌≡◌, ◌++◌, true, List, [], Ok, refl}
 use Rattle.std.specs.List.{list_all}
-use Rattle.std.specs.Prelude.{Some}
 use Rattle.ch_model.specs.declared.entry.Entry.{Entry}
 use Rattle.ch_model.specs.declared.line.Line.{Line}
 use Rattle.ch_model.specs.World.{names_of, world_new, log_from}
@@ -13,8 +10,7 @@ use Rattle.ch_laws_calls.specs.Peers.{is_of_peers, Peers}
 use Rattle.ch_laws_calls.specs.Scenes.{Raced}
 use Rattle.ch_laws_calls.proofs.Together as calls
 use Rattle.ch_laws_live.specs.Lives.{IsLively}
-use Rattle.ch_laws_plain.specs.Plain.{WorldIsPlain}
-use Rattle.ch_laws_plain_logs.specs.Plain.{is_plain, IsPlain}
+use Rattle.ch_laws_plain_logs.specs.Plain.{IsPlain}
 use Rattle.ch_laws_plain_meets.proofs.Meets.{meets_kept, fresh_meets}
 use Rattle.ch_laws_raced.specs.Given.{All}
 use Rattle.ch_laws_raced.proofs.Together.{all_is_kept, fresh_all, lively_kept_too, given_then}
@@ -30,7 +26,7 @@ use Rattle.ch_laws_live.proofs.Kept.{nothing_lives}
 use Rattle.ch_laws_plain.proofs.Start.{fresh_plain}
 use Rattle.ch_laws_peers.proofs.Plainly.{plainly_kept}
 use Rattle.ch_laws_words.specs.Standing.{IsOfNodes, Standing}
-use Rattle.ch_laws_peers.proofs.Dialed.{Agreed, Dialed, Known, dialed_kept}
+use Rattle.ch_laws_peers.proofs.Dialed.{Agreed, Known, dialed_kept}
 
 -- ---- what is so while all dials are of peers
 

@@ -34,7 +34,8 @@ use Rattle.ch_laws_plain.specs.Streams.{PlainStep}
 use Rattle.ch_laws_plain.specs.Talks.{HostIsPlain}
 use Rattle.ch_laws_plain.specs.Turns.{ReaderPlain, WriterPlain}
 use Rattle.ch_laws_plain_reads.specs.Reading.{AreOfNone, AllReadThere, Nothing, ReadOn, Opens, Closes, Receives, Loses, Brings, Reading, posts_in}
-use Rattle.ch_laws_plain_items.specs.Turns.{AllPlainNotes, ReadsPlain, Moves, IsAfter, HearsPlainly, ReadTurn}
+use Rattle.ch_laws_plain_meets.specs.Reads.{ReadsPlain}
+use Rattle.ch_laws_plain_items.specs.Turns.{AllPlainNotes, Moves, IsAfter, HearsPlainly, ReadTurn}
 use Rattle.ch_laws_plain_items.proofs.Ends.{step_read, not_it, is_it, reads_on}
 use Rattle.ch_laws_plain_items.proofs.Lists.{found_stored, others_stored}
 use Rattle.ch_laws_plain_items.proofs.Moves.{by_none, moves}

@@ -22,7 +22,8 @@ use Rattle.ch_laws_plain.specs.Plain.{is_unread_of, arrived_in, id_for, pending_
 use Rattle.ch_laws_plain.specs.Streams.{PlainStep, PlainOn}
 use Rattle.ch_laws_plain.specs.Turns.{ReaderPlain}
 use Rattle.ch_laws_plain_reads.specs.Reading.{ReadThere, AllReadThere, ReadOn}
-use Rattle.ch_laws_plain_items.specs.Turns.{ReadsPlain, Moves}
+use Rattle.ch_laws_plain_meets.specs.Reads.{ReadsPlain}
+use Rattle.ch_laws_plain_items.specs.Turns.{Moves}
 use Rattle.ch_laws_plain_items.proofs.Moves.{to_none}
 
 -- ---- the end that a frame is read at

@@ -3,8 +3,6 @@ use Rattle.std.specs.Prelude.{◌≡◌, ◌⊎◌, ℕ, false, List, [], ◌∷
 use Rattle.ch_base.specs.declared.address.Address.{Address}
 use Rattle.ch_wire.specs.declared.frame.Frame.{Frame}
 use Rattle.ch_wire.specs.declared.frame.Frame.TheVariants as frames
-use Rattle.ch_reader.specs.declared.item.Expected.{Expected}
-use Rattle.ch_reader.specs.declared.item.Item.{Item}
 use Rattle.ch_light.specs.declared.Connection.{Connection}
 use Rattle.ch_watch.specs.Same.{same_node}
 use Rattle.ch_model.specs.declared.act.Act.{Act}
@@ -12,17 +10,13 @@ use Rattle.ch_model.specs.declared.local.LocalEntry.{LocalEntry}
 use Rattle.ch_model.specs.declared.local.LocalEntry.TheVariants as local
 use Rattle.ch_model.specs.declared.step.Step.{Step}
 use Rattle.ch_model.specs.declared.step.Step.TheVariants as steps
-use Rattle.ch_model.specs.HostState.{Socket, HostState}
-use Rattle.ch_model.specs.HostSteps.{is_socket}
+use Rattle.ch_model.specs.HostState.{HostState}
 use Rattle.ch_model.specs.NodeState.{NodeState}
-use Rattle.ch_model.specs.Stages.{is_ended}
 use Rattle.ch_model.specs.WorldState.{Cell}
-use Rattle.ch_laws_fits.specs.Fit.{frames_in}
 use Rattle.ch_laws_fits.specs.Turns.{bytes_at, NoDials}
 use Rattle.ch_laws_log.specs.HostEnds.{steps_in}
-use Rattle.ch_laws_reads.specs.Reads.{AreRead}
 use Rattle.ch_laws_plain_nodes.specs.Acts.{IsPlainNote, AreNotes}
-use Rattle.ch_laws_plain.specs.Plain.{is_unread_of, id_for, pending_at, NodeIsPlain, CellIsPlain}
+use Rattle.ch_laws_plain.specs.Plain.{is_unread_of, id_for, NodeIsPlain, CellIsPlain}
 use Rattle.ch_laws_plain.specs.Streams.{PlainOn}
 use Rattle.ch_laws_plain.specs.Turns.{CellCarries}
 
@@ -41,10 +35,6 @@ AllPlainNotes (local.Note note ∷ rest) = IsPlainNote note × AllPlainNotes res
 AllPlainNotes (local.Step step ∷ rest) = AllPlainNotes rest
 
 -- ---- what is read
-
--- whatever is read at an end of the cell's host is the beginning of a plain stream
-abbrev pub ReadsPlain : Cell → Type 0
-ReadsPlain cell = (n : ℕ) (known : Socket) (read : List Item) (next : Expected) (left : List ℕ) → find (is_socket n) cell.host.sockets ≡ Some known → is_ended known.stage ≡ false → AreRead known.expected known.since read next left → (more : List Frame) × PlainOn (pending_at cell n) (frames_in read ++ more) None
 
 -- whatever is plain behind these frames, where the first stood, is plain where the second stands
 abbrev pub Moves : Option ℕ → List Frame → Option ℕ → Type 0

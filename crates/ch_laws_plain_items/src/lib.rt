@@ -31,7 +31,8 @@ ghost use Rattle.ch_laws_plain.specs.Streams.{PlainStep};
 ghost use Rattle.ch_laws_plain.specs.Talks.{HostIsPlain};
 ghost use Rattle.ch_laws_plain.specs.Turns.{WriterPlain};
 ghost use Rattle.ch_laws_plain_reads.specs.Reading.{AreOfNone, Reading};
-ghost use Rattle.ch_laws_plain_items.specs.Turns.{ReadsPlain, Moves, IsAfter, HearsPlainly, ReadTurn};
+ghost use Rattle.ch_laws_plain_meets.specs.Reads.{ReadsPlain};
+ghost use Rattle.ch_laws_plain_items.specs.Turns.{Moves, IsAfter, HearsPlainly, ReadTurn};
 
 /// What is plain behind frames that were read. Whatever they were, it is plain where no opening is unread; where they are of no
 /// connection, it is plain as it was before; and behind one that creates a connection it is plain where that has yet to be opened.

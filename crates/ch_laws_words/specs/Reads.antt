@@ -1,5 +1,5 @@
 -- What a node has read of what another has written for it, what is under way between them, and what its connections are bound to.
-use Rattle.std.specs.Prelude.{◌≡◌, ◌≤◌, ◌<◌, ◌-◌, ℕ, suc, slice_get, Bool, true, false, ◌&&◌, ◌==◌, List, [], ◌∷◌, ◌++◌, length, take, drop, count_by, filter_map, find, map, Option, Some, None}
+use Rattle.std.specs.Prelude.{◌≡◌, ◌≤◌, ◌<◌, ◌-◌, ℕ, suc, slice_get, Bool, true, false, ◌==◌, List, [], ◌∷◌, ◌++◌, length, take, drop, count_by, filter_map, find, map, Option, Some, None}
 use Rattle.ch_ident.specs.declared.identifier.Identifier.TheVariants as ends
 use Rattle.ch_ident.specs.declared.identifier.ProcessId.{ProcessId}
 use Rattle.ch_ident.specs.declared.node_message.NodeMessage.TheVariants.{Opening}
@@ -40,8 +40,8 @@ use Rattle.ch_race.specs.Pair.{Side, other}
 use Rattle.ch_laws_bytes.specs.Streams.{Reader, reader_of, is_over}
 use Rattle.ch_laws_race.specs.Scene.{Party, link_of}
 use Rattle.ch_laws_calls.specs.Scenes.{IsPairOf, scene_of}
-use Rattle.ch_laws_words.specs.Words.{Placed, Word, words_in, datas_in}
-use Rattle.ch_laws_words.specs.Says.{towards, IsUpOn, node_of, Says}
+use Rattle.ch_laws_words.specs.Words.{Placed, words_in, datas_in}
+use Rattle.ch_laws_words.specs.Says.{towards, IsUpOn, node_of}
 
 -- ---- what is under way
 

@@ -1,6 +1,6 @@
 -- What a node has said to another, and what it has written for it or keeps until their link is up.
 use Rattle.std.specs.List.{list_any}
-use Rattle.std.specs.Prelude.{◌≡◌, ◌⊎◌, ℕ, Bool, true, false, ◌==◌, not, ◌&&◌, List, [], ◌∷◌, ◌++◌, length, filter_map, find, map, slice_get, Option, Some, None}
+use Rattle.std.specs.Prelude.{◌≡◌, ◌⊎◌, ℕ, Bool, true, false, ◌==◌, not, ◌&&◌, List, [], ◌∷◌, ◌++◌, length, find, slice_get, Option, Some, None}
 use Rattle.ch_ident.specs.declared.identifier.ProcessId.{ProcessId}
 use Rattle.ch_light.specs.Ids.{id_of}
 use Rattle.ch_link.specs.declared.LinkState.TheVariants.{Up}

@@ -24,6 +24,8 @@ use Rattle.ch_laws_many.proofs.FeedsAndDials.{feeds_and_dials}
 use Rattle.ch_laws_many.proofs.InOrder.{in_order}
 use Rattle.ch_laws_many.proofs.Journals.{is_journal}
 use Rattle.ch_laws_risen.proofs.Kept.{read_requests, read_answers, accepted_next, target_first}
+use Rattle.ch_laws_endings.proofs.LogEnds.{log_caused}
+use Rattle.ch_laws_peers.proofs.Logs.{fair}
 use Rattle.ch_replay.specs.Promised.{IsOrderly}
 
 apart : (bytes : List ℕ) → AreNamedApart (names_of (journal_of many_nodes bytes))
@@ -64,7 +66,9 @@ with_world bytes log world is from = record {
   epochs = follows (journal_of many_nodes bytes) (is_journal bytes) log is;
   numbered = all_numbered log (allowed bytes log is) (simple bytes log is);
   over_once = all_once log (allowed bytes log is) (simple bytes log is);
+  ends_caused = log_caused (journal_of many_nodes bytes) (is_journal bytes) log is;
   dead_rest = all_rest log (allowed bytes log is) (simple bytes log is);
+  fair = fair bytes log is;
 }
 
 pub orderly : (bytes : List ℕ) (log : List Entry) → log_of (journal_of many_nodes bytes) ≡ Ok log → IsOrderly (journal_of many_nodes bytes) log
