@@ -8,8 +8,15 @@ use Rattle.ch_model.specs.Logs.{each}
 use Rattle.ch_model.specs.WorldState.{World}
 use Rattle.ch_race.specs.Pair.{Side, other}
 use Rattle.ch_laws_race.specs.Scene.{Party, link_of}
+use Rattle.ch_laws_calls.specs.Calls.{Both}
 use Rattle.ch_laws_calls.specs.Scenes.{IsPairOf, scene_of}
+use Rattle.ch_laws_unbroken.specs.Breaks.{NoBreaks}
+use Rattle.ch_laws_unbroken.specs.Given.{Given}
 use Rattle.ch_laws_once.specs.Begun.{is_idle}
+
+-- all that is given of a log and its world where nothing breaks, and that nothing broke
+abbrev pub Unbroken : List Line → List Entry → World → Type 0
+Unbroken journal = Both (Given journal) (λ log world. NoBreaks log)
 
 -- the log tells that x dials y
 abbrev pub has_dial : List Entry → List ℕ → List ℕ → Bool
