@@ -4,3 +4,6 @@ pub mod Told
 pub mod Begun
 pub mod Kept
 pub mod Together
+pub mod Across
+pub mod Hears
+pub mod Over
