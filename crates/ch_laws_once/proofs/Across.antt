@@ -1,5 +1,5 @@
 -- By the machine of a quiet pair: where an end is up and has a frame to read, the end across is up.
-use Rattle.std.proofs.Common.{◌≡◌, ℕ, Bool, true, false, List, [], ◌∷◌, refl, sym, ap, ◌∙◌, subst}
+use Rattle.std.proofs.Common.{◌≡◌, ℕ, Bool, true, false, List, [], ◌∷◌, refl, sym, ◌∙◌}
 use Rattle.ch_reader.specs.declared.item.Expected.{Expected}
 use Rattle.ch_reader.specs.declared.item.Expected.TheVariants as expected
 use Rattle.ch_model.specs.declared.name.End.{End}
@@ -9,8 +9,8 @@ use Rattle.ch_model.specs.Stages.{Stage, Pending, Open, Ended}
 use Rattle.ch_race.specs.Invariant.{Invariant}
 use Rattle.ch_race.specs.Pair as pair
 use Rattle.ch_race.specs.Pair.{Side, other, OEnd, OPending, OAsking, OUp, OEnded, TEnd, TPending, TOpen, TUp, TEnded, Sock, Pair}
-use Rattle.ch_race.specs.Quiet.{Fits, QuietSock}
-use Rattle.ch_race.specs.Words.{In_t, Phase, UnlessCut, Words}
+use Rattle.ch_race.specs.Quiet.{Fits}
+use Rattle.ch_race.specs.Words.{In_t, Phase, UnlessCut}
 use Rattle.ch_laws_race.specs.View.{opener_end, target_end}
 use Rattle.ch_laws_race.proofs.Readings.{IsUp, unread}
 

@@ -34,7 +34,7 @@ use Rattle.ch_model.specs.HostCalls.{◌>>=◌, stepped, of_ids, open_endpoint, 
 use Rattle.ch_model.specs.HostItems.{most_arrived, posts, gone_from, is_gone, refusal_of, asks_link, reads_request, heard_answer, arrived_at, with_arrival, next_arrival, arrives, closes, receives, reads_frame, reads_on, reads_other, reads}
 use Rattle.ch_model.specs.HostLinks.{next_dial, hears}
 use Rattle.ch_model.specs.HostState.{Endpoint, Link, Socket, HostState}
-use Rattle.ch_model.specs.HostSteps.{Stepped, still, does, ◌then◌, own_address, is_endpoint, is_link, link_or_new, link_with, with_link, with_socket, with_endpoint, is_socket}
+use Rattle.ch_model.specs.HostSteps.{Stepped, still, does, own_address, is_endpoint, link_or_new, link_with, with_link, with_socket, with_endpoint, is_socket}
 use Rattle.ch_model.specs.HostWrites.{writes, leaves, answers_and_leaves, puts, frame_step, end_socket}
 use Rattle.ch_model.specs.Stages.{Stage, Open, is_pending, is_open}
 use Rattle.ch_laws_links.specs.Naming.{IsNaming}

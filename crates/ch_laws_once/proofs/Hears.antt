@@ -9,10 +9,9 @@ use Rattle.std.specs.Str.{bytes_eq}
 use Rattle.ch_model.specs.declared.entry.Entry.{Entry}
 use Rattle.ch_model.specs.declared.entry.Entry.TheVariants as entries
 use Rattle.ch_model.specs.declared.name.End.{End}
-use Rattle.ch_model.specs.declared.name.End.TheVariants.{O, T}
 use Rattle.ch_model.specs.declared.name.SockName.{SockName}
 use Rattle.ch_model.specs.Delivery.{hears_from}
-use Rattle.ch_model.specs.Links.{rises, goes_down, has_risen, is_closed, risen_with, is_still_up, up_sockets}
+use Rattle.ch_model.specs.Links.{rises, goes_down, has_risen, is_closed, risen_with, is_still_up}
 use Rattle.ch_model.specs.Same.{owner, across, is_end_of, end_of}
 use Rattle.ch_laws_links.proofs.Found.{one_is}
 use Rattle.ch_laws_scenes.proofs.Places.{first_or, second_or}

@@ -1,5 +1,5 @@
 -- Each thing that happens in a journal of many nodes keeps it that a node dials a peer once.
-use Rattle.std.proofs.Common.{◌≡◌, ℕ, ◌+◌, ◌*◌, Bool, true, false, ◌&&◌, ◌||◌, List, [], ◌∷◌, ◌++◌, length, drop, refl, sym, ap, ◌∙◌}
+use Rattle.std.proofs.Common.{◌≡◌, ℕ, ◌+◌, ◌*◌, true, false, ◌&&◌, ◌||◌, List, [], ◌∷◌, ◌++◌, length, drop, refl, sym, ap, ◌∙◌}
 use Rattle.std.proofs.lemmas.Option.{slice_get_within}
 use Rattle.std.specs.Prelude.{slice_get, Some}
 use Rattle.ch_light.proofs.Lists.{set_here}
@@ -12,11 +12,10 @@ use Rattle.ch_model.specs.declared.step.Step.{Step}
 use Rattle.ch_model.specs.HostState.{HostState}
 use Rattle.ch_model.specs.HostSteps.{link_with}
 use Rattle.ch_model.specs.Links.{dials_to, dials_once}
-use Rattle.ch_model.specs.Logs.{each_after}
 use Rattle.ch_model.specs.World.{names_of, world_new}
 use Rattle.ch_model.specs.WorldHappenings.{with_cell}
 use Rattle.ch_model.specs.WorldSockets.{opened}
-use Rattle.ch_model.specs.WorldState.{Cell, WorldEnd, WorldSocket, World}
+use Rattle.ch_model.specs.WorldState.{Cell, WorldEnd, World}
 use Rattle.ch_model.specs.WorldSteps.{note_entry, place_after}
 use Rattle.ch_laws_log.proofs.Blocks.{each_append}
 use Rattle.ch_laws_many.proofs.Reached.{IsJournal}
@@ -28,17 +27,15 @@ use Rattle.ch_race.specs.Pair.{other}
 use Rattle.ch_laws_race.specs.Scene.{host_in, hosts_of}
 use Rattle.ch_laws_race.proofs.Sockets.{set_same}
 use Rattle.ch_laws_race.proofs.Views.{at_place, hosts_set}
-use Rattle.ch_laws_calls.specs.Calls.{Both, Claim, KeepsCalls, with_host, done_at, joined_in, come_in, fed_in}
+use Rattle.ch_laws_calls.specs.Calls.{KeepsCalls, with_host, done_at, joined_in, come_in, fed_in}
 use Rattle.ch_laws_live.specs.Turns.{starts_last, start_last}
 use Rattle.ch_laws_live.proofs.Entries.{starts_told}
 use Rattle.ch_laws_live.proofs.Steps.{next_starts, on_starts_last, connect_starts_last, send_starts_last, close_starts_last}
-use Rattle.ch_laws_unbroken.specs.Breaks.{NoBreaks, calm}
-use Rattle.ch_laws_unbroken.specs.Given.{Given}
 use Rattle.ch_laws_unbroken.proofs.Items.{calm_next}
 use Rattle.ch_laws_unbroken.proofs.Overs.{calm_over}
 use Rattle.ch_laws_unbroken.proofs.Steps.{calm_connect, calm_send, calm_close, calm_joined, calm_came, calm_fed}
 use Rattle.ch_laws_once.specs.Begun.{is_idle, GoesOn}
-use Rattle.ch_laws_once.specs.Once.{Unbroken, AllBegun, DialsOnce}
+use Rattle.ch_laws_once.specs.Once.{Unbroken, DialsOnce}
 use Rattle.ch_laws_once.proofs.Begun.{begun_same, once_plain, call_once}
 use Rattle.ch_laws_once.proofs.Calls.{on_goes, next_goes, connect_goes, send_goes, close_goes}
 use Rattle.ch_laws_once.proofs.Told.{note_dials}

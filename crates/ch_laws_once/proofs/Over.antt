@@ -1,6 +1,5 @@
 -- Where a host reads a frame on the socket that a link of two nodes is up on, the other node came up there.
-use Rattle.std.proofs.Common.{◌≡◌, ◌⊎◌, inl, inr, ℕ, Bool, true, false, cond, not, ◌&&◌, ◌||◌, List, [], ◌∷◌, ◌++◌, Ok, refl, sym, ap, ◌∙◌, subst}
-use Rattle.std.proofs.lemmas.Bool.{and_parts}
+use Rattle.std.proofs.Common.{◌≡◌, ℕ, Bool, true, false, cond, ◌&&◌, ◌||◌, List, ◌∷◌, ◌++◌, refl, sym, ap, ◌∙◌, subst}
 use Rattle.std.proofs.lemmas.Slice.Eq.{bytes_eq-Decides}
 use Rattle.std.specs.Option.{option_map}
 use Rattle.std.specs.Prelude.{find, is_some, slice_get, Option, Some, None}
@@ -9,9 +8,7 @@ use Rattle.ch_wire.specs.declared.frame.Frame.{Frame}
 use Rattle.ch_reader.specs.declared.item.Expected.{Expected}
 use Rattle.ch_reader.specs.declared.item.Expected.TheVariants as expected
 use Rattle.ch_reader.specs.declared.item.Front.TheVariants.{Whole}
-use Rattle.ch_reader.specs.declared.item.Item.{Item}
 use Rattle.ch_reader.specs.declared.item.Item.TheVariants as items
-use Rattle.ch_link.specs.declared.LinkState.{LinkState}
 use Rattle.ch_link.specs.declared.LinkState.TheVariants.{Up}
 use Rattle.ch_model.specs.declared.entry.Entry.{Entry}
 use Rattle.ch_model.specs.declared.entry.Entry.TheVariants as entries
@@ -29,10 +26,8 @@ use Rattle.ch_model.specs.Links.{has_risen, is_closed}
 use Rattle.ch_model.specs.Same.{owner, across, is_between, node_of}
 use Rattle.ch_model.specs.Stages.{Stage, Open, is_open}
 use Rattle.ch_model.specs.WorldSockets.{end_of}
-use Rattle.ch_model.specs.WorldState.{Cell, WorldEnd, WorldSocket, World}
-use Rattle.ch_race.specs.Invariant.{Invariant}
-use Rattle.ch_race.specs.Pair as pair
-use Rattle.ch_race.specs.Pair.{Side, Lesser, Greater, other, OEnd, OUp, TEnd, TUp, Sock, Pair, dead}
+use Rattle.ch_model.specs.WorldState.{Cell, WorldSocket, World}
+use Rattle.ch_race.specs.Pair.{Side, Lesser, Greater, other, Sock, Pair, dead}
 use Rattle.ch_race.proofs.Runs.{invariant_reached}
 use Rattle.ch_laws_items.proofs.Next.{served}
 use Rattle.ch_laws_log.proofs.HostTold.{number_found}
@@ -46,8 +41,8 @@ use Rattle.ch_laws_links.proofs.Journals.{now_at, now_of}
 use Rattle.ch_laws_links.proofs.Says as says
 use Rattle.ch_laws_race.specs.Scene.{Party, Scene, host_in, hosts_of, host_of, link_of}
 use Rattle.ch_laws_race.specs.Sound.{Acts, HasEnd, first_of, opener_by}
-use Rattle.ch_laws_race.specs.Reading.{Reads, IsUser}
-use Rattle.ch_laws_race.specs.View.{kind, Reader, reader_of, record_of, reader_at, opener_end, target_end, opener_of, sock_of, sock_seen, view}
+use Rattle.ch_laws_race.specs.Reading.{Reads}
+use Rattle.ch_laws_race.specs.View.{kind, reader_of, record_of, reader_at, opener_of, sock_of, sock_seen, view}
 use Rattle.ch_laws_race.proofs.Read as read
 use Rattle.ch_laws_race.proofs.Readings.{IsUp, unread, other_twice}
 use Rattle.ch_laws_calls.specs.Calls.{IsIn}
@@ -169,38 +164,38 @@ module _ (journal : List Line) (log : List Entry) (world : World) (g : Given jou
     module _ (y : Side) (cell : Cell × ℕ) (at : slice_get world.cells (party y).place ≡ Some cell) (e : End) (i : ℕ) (socket : WorldSocket) (known : Socket) (has : HasEnd (scene_of party world) y e i known.number socket)
         (found : find (is_socket known.number) (host_of (scene_of party world) y).sockets ≡ Some known) (ready : is_ready known ≡ true) (expects : known.expected ≡ expected.Frame)
       where
-      abbrev first : IsFirst known (end_of e socket).unread
-      first = reading.first party world facts y cell e i socket known at has found ready
+        abbrev first : IsFirst known (end_of e socket).unread
+        first = reading.first party world facts y cell e i socket known at has found ready
 
-      reads_it : Reads S y e i socket known first.item
-      reads_it = reading.reads party world facts y cell e i socket known at has found ready
+        reads_it : Reads S y e i socket known first.item
+        reads_it = reading.reads party world facts y cell e i socket known at has found ready
 
-      its_acts : Acts S y cell
-      its_acts = facts.acts y cell at
+        its_acts : Acts S y cell
+        its_acts = facts.acts y cell at
 
-      sock_is : V.sock i ≡ read.Seen S y cell e i socket known first.item its_acts reads_it
-      sock_is = read.sock_at S y cell e i socket known first.item its_acts reads_it
+        sock_is : V.sock i ≡ read.Seen S y cell e i socket known first.item its_acts reads_it
+        sock_is = read.sock_at S y cell e i socket known first.item its_acts reads_it
 
-      up_here : IsUp e (V.sock i)
-      up_here = subst (IsUp e) (sym sock_is) (read.is_up S y cell e i socket known first.item its_acts reads_it expects)
+        up_here : IsUp e (V.sock i)
+        up_here = subst (IsUp e) (sym sock_is) (read.is_up S y cell e i socket known first.item its_acts reads_it expects)
 
-      unread_here : unread e (V.sock i) ≡ kind first.item ∷ read.Rest S y cell e i socket known first.item its_acts reads_it
-      unread_here = ap (unread e) sock_is ∙ read.first_is S y cell e i socket known first.item its_acts reads_it
+        unread_here : unread e (V.sock i) ≡ kind first.item ∷ read.Rest S y cell e i socket known first.item its_acts reads_it
+        unread_here = ap (unread e) sock_is ∙ read.first_is S y cell e i socket known first.item its_acts reads_it
 
-      up_across : IsUp (across e) (V.sock i)
-      up_across = across_up V (invariant_reached V (g.raced party pair_is)) refl e i (kind first.item) (read.Rest S y cell e i socket known first.item its_acts reads_it) up_here unread_here
+        up_across : IsUp (across e) (V.sock i)
+        up_across = across_up V (invariant_reached V (g.raced party pair_is)) refl e i (kind first.item) (read.Rest S y cell e i socket known first.item its_acts reads_it) up_here unread_here
 
-      seen_as : V.sock i ≡ sock_of party (hosts_of world) socket
-      seen_as = ap (sock_seen party (hosts_of world)) has.at ∙ ap (λ b. cond b (sock_of party (hosts_of world) socket) dead) has.between
+        seen_as : V.sock i ≡ sock_of party (hosts_of world) socket
+        seen_as = ap (sock_seen party (hosts_of world)) has.at ∙ ap (λ b. cond b (sock_of party (hosts_of world) socket) dead) has.between
 
-      is_in : IsIn socket world
-      is_in = found_there world.sockets i socket g.sound.ends.sure.ends.sorted.0.apart has.at
+        is_in : IsIn socket world
+        is_in = found_there world.sockets i socket g.sound.ends.sure.ends.sorted.0.apart has.at
 
-      hears_across : hears_from log (party y).name (party (other y)).name ≡ true
-      hears_across =
-          let names = named y e socket has.between has.opener in
-          let own = seen_risen i socket is_in e seen_as up_here in
-          hears_on_socket log socket.name e (party y).name (party (other y)).name names.0 names.1 names.2 own.0 own.1 (seen_risen i socket is_in (across e) seen_as up_across).0
+        hears_across : hears_from log (party y).name (party (other y)).name ≡ true
+        hears_across =
+            let names = named y e socket has.between has.opener in
+            let own = seen_risen i socket is_in e seen_as up_here in
+            hears_on_socket log socket.name e (party y).name (party (other y)).name names.0 names.1 names.2 own.0 own.1 (seen_risen i socket is_in (across e) seen_as up_across).0
 
     -- the link of this node with the other is up on the socket of a frame
     pub over_link : (y : Side) (n : ℕ) (probed : Bool) (known : Socket) (frame : Frame) → (link_of (scene_of party world) y).state ≡ Up n probed → find (is_socket n) (host_of (scene_of party world) y).sockets ≡ Some known → (front_of known).0 ≡ Whole (items.Frame frame)
@@ -240,4 +235,4 @@ module _ (journal : List Line) (log : List Entry) (world : World) (g : Given jou
     got_over_link x cell n probed known frame at up next number front more unbroken by to epoch index receiver from there =
         second_or (bytes_eq by.node (node_of to)) (hears_from (log ++ more) (node_of to) by.node)
         (ap (λ (y : List ℕ). hears_from (log ++ more) y by.node) there ∙ ap (hears_from (log ++ more) (party (other x)).name) from
-            ∙ hears_still log more (party (other x)).name (party x).name unbroken (over_link_next x cell n probed known frame at up next number front))
+        ∙ hears_still log more (party (other x)).name (party x).name unbroken (over_link_next x cell n probed known frame at up next number front))

@@ -4,8 +4,8 @@ use Rattle.std.proofs.lemmas.Bool.{and_parts, eq-eqb}
 use Rattle.std.proofs.lemmas.List.{append-nil}
 use Rattle.std.proofs.lemmas.List.Folds.{list_any-append, list_all-append}
 use Rattle.std.proofs.lemmas.Slice.Eq.{bytes_eq-Decides}
-use Rattle.std.specs.List.{list_any, list_all, fold}
-use Rattle.std.specs.Prelude.{◌==◌, Option, Some, None}
+use Rattle.std.specs.List.{list_all, fold}
+use Rattle.std.specs.Prelude.{Option, Some, None}
 use Rattle.std.specs.Str.{bytes_eq}
 use Rattle.ch_base.specs.declared.address.Address.{Address}
 use Rattle.ch_watch.specs.Same.{same_node}
@@ -129,6 +129,9 @@ since_all x y log n = since_from x y [] log n
 
 pub front_unbroken : (front back : List Entry) → NoBreaks (front ++ back) → NoBreaks front
 front_unbroken front back n = (and_parts (list_all is_no_break front) (list_all is_no_break back) (sym (list_all-append is_no_break front back) ∙ n)).0
+
+pub back_unbroken : (front back : List Entry) → NoBreaks (front ++ back) → NoBreaks back
+back_unbroken front back n = (and_parts (list_all is_no_break front) (list_all is_no_break back) (sym (list_all-append is_no_break front back) ∙ n)).1
 
 -- what stands after the same front is the same
 pub after_front : (front one two : List Entry) → front ++ one ≡ front ++ two → one ≡ two

@@ -1,7 +1,9 @@
-//! The laws of dials that happen once: in a journal of many nodes, between which nothing is lost, a node dials a peer once.
+//! The laws of one dial, and of frames over links: in a journal of many nodes, between which nothing is lost, a node dials a peer once, and
+//! what a host reads on the socket of a link was written by a node that came up there.
 //!
 //! No code: laws as clauses of empty functions, over the model below. ch_laws_unbroken has that no link of such a journal breaks; so a
-//! link that has begun isn't idle again, and a host dials only for a link that is idle.
+//! link that has begun isn't idle again, and a host dials only for a link that is idle. Where a frame is unread at an end that is up,
+//! the end across is up by the machine of ch_race; and here it is said of the log.
 #![tactic(auto)]
 
 ghost use Rattle.std.specs.Prelude.{◌≡◌, ◌++◌, ℕ, Bool, true, List, [], find, slice_get, Option, Some, Ok, IsTrue};
@@ -65,10 +67,10 @@ pub fn dials_happen_once()
         → Peers (journal_of many_nodes bytes) log world → IsTrue (each dials_once log) }
 {}
 
-/// Where a link of a node is up, in a world of a journal of many nodes as it should be, and a frame stands at the front of what the
-/// node's host has unread on its socket, the log tells that this node is up on a socket on which the other has come up: the other came up before it
-/// wrote the frame, and no end that was up is closed. So a message that is got as the frame is read, while nothing breaks, is got over
-/// the link of the two.
+/// In a world of a journal of many nodes, where hosts and world agree, and each two nodes are seen as a pair that comes about by moves
+/// that may happen: where a frame stands at the front of what a node's host has on the socket that its link with another is up on, the
+/// log tells that the node is up on a socket on which the other has come up. So it is of the frame that the host is to read next; it
+/// stays so as long as nothing breaks; and a message that is got then, of the other, is got over the link of the two.
 pub fn frames_come_over_links()
     ensures read { (journal : List Line) (log : List Entry) (world : World) → Given journal log world → (party : Side → Party) → IsPairOf journal party → (y : Side) (n : ℕ) (probed : Bool) (known : Socket) (frame : Frame) → (link_of (scene_of party world) y).state ≡ Up n probed
         → find (is_socket n) (host_of (scene_of party world) y).sockets ≡ Some known → (front_of known).0 ≡ Whole (items.Frame frame) → hears_from log (party y).name (party (other y)).name ≡ true }
