@@ -20,18 +20,18 @@ use Rattle.ch_laws_links.proofs.Hosts.{next_naming, event_naming}
 use Rattle.ch_laws_many.proofs.Reached.{IsJournal}
 use Rattle.ch_laws_plain.specs.Plain.{WorldIsPlain}
 use Rattle.ch_laws_plain.proofs.Writes.{next_writes}
-use Rattle.ch_laws_plain_asks.specs.Given as asks
-use Rattle.ch_laws_plain_asks.proofs.Kept.{peers_kept}
-use Rattle.ch_laws_plain_asks.proofs.Worlds.{made_plain, asked_plain_world}
-use Rattle.ch_laws_plain_items.specs.Turns.{ReadTurn}
-use Rattle.ch_laws_plain_items.proofs.Cells.{turn_carries}
-use Rattle.ch_laws_plain_lines.proofs.Handed.{came_plain, fed_plain}
-use Rattle.ch_laws_plain_lines.proofs.Joined.{joined_plain}
-use Rattle.ch_laws_plain_lines.proofs.Turned.{marked_plain, ended_plain, item_plain}
-use Rattle.ch_laws_plain_meets.specs.Meets.{AllMeet}
-use Rattle.ch_laws_plain_meets.proofs.Begins.{peers_read_plain}
-use Rattle.ch_laws_plain_reads.proofs.Alone.{next_dials_none, ended_dials_none}
-use Rattle.ch_laws_plain_reads.proofs.Turns as reads
+use Rattle.ch_laws_plain.specs.AsksGiven as asks
+use Rattle.ch_laws_plain.proofs.AsksKept.{peers_kept}
+use Rattle.ch_laws_plain.proofs.AsksWorlds.{made_plain, asked_plain_world}
+use Rattle.ch_laws_plain.specs.HearsTurns.{ReadTurn}
+use Rattle.ch_laws_plain.proofs.HearsCells.{turn_carries}
+use Rattle.ch_laws_plain.proofs.LinesHanded.{came_plain, fed_plain}
+use Rattle.ch_laws_plain.proofs.LinesJoined.{joined_plain}
+use Rattle.ch_laws_plain.proofs.LinesTurned.{marked_plain, ended_plain, item_plain}
+use Rattle.ch_laws_plain.specs.MeetsMeets.{AllMeet}
+use Rattle.ch_laws_plain.proofs.MeetsBegins.{peers_read_plain}
+use Rattle.ch_laws_plain.proofs.ReadsAlone.{next_dials_none, ended_dials_none}
+use Rattle.ch_laws_plain.proofs.ReadsTurns as reads
 use Rattle.ch_laws_raced.specs.Given.{All}
 use Rattle.ch_laws_turns.specs.Turns.{KeepsTurns}
 use Rattle.ch_laws_turns.proofs.Together.{beside}

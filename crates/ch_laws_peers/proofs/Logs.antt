@@ -19,7 +19,7 @@ use Rattle.ch_laws_many.proofs.Declared.{names_apart}
 use Rattle.ch_laws_many.proofs.Journals.{is_journal}
 use Rattle.ch_laws_plain_logs.specs.Plain.{is_plain_line, HasPlainLines, PlainlyLawful}
 use Rattle.ch_laws_plain_logs.proofs.Lawful.{plainly_lawful}
-use Rattle.ch_laws_words.specs.Standing.{IsOfNodes, Standing}
+use Rattle.ch_laws_peers.specs.Standing.{IsOfNodes, Standing}
 use Rattle.ch_laws_peers.specs.Fair.{IsFair}
 use Rattle.ch_laws_peers.proofs.Together.{all_stand}
 

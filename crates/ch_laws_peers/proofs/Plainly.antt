@@ -20,9 +20,9 @@ use Rattle.ch_model.specs.WorldSteps.{all_told}
 use Rattle.ch_laws_bytes.specs.Streams.{AreAddresses}
 use Rattle.ch_laws_calls.specs.Calls.{Claim, with_host, joined_in, come_in, fed_in}
 use Rattle.ch_laws_many.proofs.Reached.{IsJournal}
-use Rattle.ch_laws_plain_asks.proofs.Commands.{plain_command}
-use Rattle.ch_laws_plain_asks.proofs.Turns.{asks}
-use Rattle.ch_laws_plain_items.specs.Turns.{AllPlainNotes}
+use Rattle.ch_laws_plain.proofs.AsksCommands.{plain_command}
+use Rattle.ch_laws_plain.proofs.AsksTurns.{asks}
+use Rattle.ch_laws_plain.specs.HearsTurns.{AllPlainNotes}
 use Rattle.ch_laws_plain_logs.specs.Plain.{is_plain, IsPlain}
 use Rattle.ch_laws_plain_nodes.specs.Does.{Makes}
 use Rattle.ch_laws_plain_nodes.specs.Plain.{IsPlain as IsPlainNode}
@@ -30,7 +30,7 @@ use Rattle.ch_laws_plain_nodes.proofs.Calls.{makes, told_does}
 use Rattle.ch_laws_plain_nodes.proofs.Commands.{on_command}
 use Rattle.ch_laws_plain_nodes.proofs.Steps.{given_so}
 use Rattle.ch_laws_turns.specs.Turns.{end_in, KeepsTurns}
-use Rattle.ch_laws_unbroken.specs.Breaks.{is_no_break, NoBreaks}
+use Rattle.ch_laws_raced.specs.UnbrokenBreaks.{is_no_break, NoBreaks}
 use Rattle.ch_laws_peers.proofs.Dialed.{Known, item_reads, end_reads}
 use Rattle.ch_laws_peers.proofs.Told.{no_notes, told_plain, plain_told}
 

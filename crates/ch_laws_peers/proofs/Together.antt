@@ -11,21 +11,21 @@ use Rattle.ch_laws_calls.specs.Scenes.{Raced}
 use Rattle.ch_laws_calls.proofs.Together as calls
 use Rattle.ch_laws_live.specs.Lives.{IsLively}
 use Rattle.ch_laws_plain_logs.specs.Plain.{IsPlain}
-use Rattle.ch_laws_plain_meets.proofs.Meets.{meets_kept, fresh_meets}
+use Rattle.ch_laws_plain.proofs.MeetsMeets.{meets_kept, fresh_meets}
 use Rattle.ch_laws_raced.specs.Given.{All}
 use Rattle.ch_laws_raced.proofs.Together.{all_is_kept, fresh_all, lively_kept_too, given_then}
 use Rattle.ch_laws_turns.specs.Turns.{KeepsTurns}
 use Rattle.ch_laws_turns.proofs.Lines.{all_turns}
 use Rattle.ch_laws_turns.proofs.OfCalls.{by_calls}
 use Rattle.ch_laws_turns.proofs.Together.{combined, alike, weaker, beside, given_first}
-use Rattle.ch_laws_unbroken.specs.Breaks.{NoBreaks}
-use Rattle.ch_laws_unbroken.specs.Given as unbroken
-use Rattle.ch_laws_unbroken.proofs.Kept.{unbroken_kept, nothing_broken}
+use Rattle.ch_laws_raced.specs.UnbrokenBreaks.{NoBreaks}
+use Rattle.ch_laws_raced.specs.UnbrokenGiven as unbroken
+use Rattle.ch_laws_raced.proofs.UnbrokenKept.{unbroken_kept, nothing_broken}
 use Rattle.ch_laws_scenes.proofs.Start.{raced_at_start}
 use Rattle.ch_laws_live.proofs.Kept.{nothing_lives}
 use Rattle.ch_laws_plain.proofs.Start.{fresh_plain}
 use Rattle.ch_laws_peers.proofs.Plainly.{plainly_kept}
-use Rattle.ch_laws_words.specs.Standing.{IsOfNodes, Standing}
+use Rattle.ch_laws_peers.specs.Standing.{IsOfNodes, Standing}
 use Rattle.ch_laws_peers.proofs.Dialed.{Agreed, Known, dialed_kept}
 
 -- ---- what is so while all dials are of peers

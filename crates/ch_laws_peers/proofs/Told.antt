@@ -32,8 +32,8 @@ use Rattle.ch_model.specs.WorldSteps.{note_entry, reads_item, end_closes, steppe
 use Rattle.ch_laws_plain_nodes.specs.Acts.{IsPlainNote, ArePlain}
 use Rattle.ch_laws_plain_nodes.specs.Plain.{IsToProcess}
 use Rattle.ch_laws_plain_logs.specs.Plain.{is_plain}
-use Rattle.ch_laws_plain_items.specs.Turns.{AllPlainNotes}
-use Rattle.ch_laws_unbroken.specs.Breaks.{is_no_break}
+use Rattle.ch_laws_plain.specs.HearsTurns.{AllPlainNotes}
+use Rattle.ch_laws_raced.specs.UnbrokenBreaks.{is_no_break}
 
 both : (a b : Bool) → a ≡ true → b ≡ true → (a && b) ≡ true
 both true b one two = two

@@ -1,1 +1,5 @@
 pub mod Fair
+pub mod Words
+pub mod Says
+pub mod Reads
+pub mod Standing

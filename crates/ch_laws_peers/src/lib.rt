@@ -19,8 +19,8 @@ ghost use Rattle.ch_laws_calls.specs.Calls.{Anything};
 ghost use Rattle.ch_laws_calls.specs.Peers.{Peers};
 ghost use Rattle.ch_laws_plain_logs.specs.Plain.{IsPlain};
 ghost use Rattle.ch_laws_turns.specs.Turns.{KeepsTurns};
-ghost use Rattle.ch_laws_unbroken.specs.Breaks.{NoBreaks};
-ghost use Rattle.ch_laws_words.specs.Standing.{IsOfNodes, Standing};
+ghost use Rattle.ch_laws_raced.specs.UnbrokenBreaks.{NoBreaks};
+ghost use Rattle.ch_laws_peers.specs.Standing.{IsOfNodes, Standing};
 ghost use Rattle.ch_laws_peers.specs.Fair.{IsFair};
 
 /// In a journal of many nodes each turn keeps all of this: hosts and world agree, and nodes with their hosts; all dials are between

@@ -1,5 +1,5 @@
 -- All acts of a plain node, one after another: what its host writes for them, and what waits there, is plain.
-use Rattle.std.proofs.Common.{◌≡◌, ◌≤◌, ℕ, Bool, true, false, List, [], ◌∷◌, ◌++◌, length, Ok, Err, refl, sym, ap, ◌∙◌, subst, arith}
+use Rattle.std.proofs.Common.{◌≡◌, ◌≤◌, ℕ, true, false, List, [], ◌∷◌, ◌++◌, length, Ok, Err, refl, sym, ap, ◌∙◌, subst, arith}
 use Rattle.std.proofs.lemmas.Bool.Decides.{nat_tests}
 use Rattle.std.proofs.lemmas.List.{append_assoc}
 use Rattle.std.specs.Prelude.{nat_lt, Result}
@@ -10,7 +10,6 @@ use Rattle.ch_model.specs.declared.act.Act.{Act}
 use Rattle.ch_model.specs.declared.act.Act.TheVariants as acts
 use Rattle.ch_model.specs.declared.local.LocalEntry.{LocalEntry}
 use Rattle.ch_model.specs.declared.local.LocalEntry.TheVariants as local
-use Rattle.ch_model.specs.declared.note.Note.{Note}
 use Rattle.ch_model.specs.declared.step.EndError.{EndError}
 use Rattle.ch_model.specs.declared.step.EndError.TheVariants as errors
 use Rattle.ch_model.specs.declared.step.Step.{Step}
@@ -24,14 +23,14 @@ use Rattle.ch_laws_links.proofs.Cells.{steps_told}
 use Rattle.ch_laws_writes.specs.Dues.{due_at}
 use Rattle.ch_laws_writes.specs.Orderly.{IsOrderly, AllWrite}
 use Rattle.ch_laws_writes.proofs.Calls as writes
-use Rattle.ch_laws_connections.specs.Tables.{given_so, LinksApart}
+use Rattle.ch_laws_connections.specs.Tables.{LinksApart}
 use Rattle.ch_laws_connections.specs.Senders.{Sender}
 use Rattle.ch_laws_connections.specs.Fits.{FitsAs}
 use Rattle.ch_laws_connections.proofs.Acts.{After, open_room, act_fits}
 use Rattle.ch_laws_connections.proofs.HostCalls.{SetsFree, IsTaken, with_opened, SentButLong, takes_payload}
 use Rattle.ch_laws_connections.proofs.HostCalls as calls
 use Rattle.ch_laws_plain_nodes.specs.Plain.{IsPlainOpening}
-use Rattle.ch_laws_plain_nodes.specs.Acts.{ArePlain, IsFirst}
+use Rattle.ch_laws_plain_nodes.specs.Acts.{ArePlain}
 use Rattle.ch_laws_plain.specs.Acts.{AreShort, AllSpeak}
 use Rattle.ch_laws_plain.specs.Talks.{HostIsPlain, Connects, Sends, Closes, Speaks}
 use Rattle.ch_laws_plain.proofs.Streams.{opened_plain, data_plain, closing_plain}

@@ -1,5 +1,5 @@
 -- What an endpoint puts on its link is written where the link is up, and else waits: connections that are opened and closed, and payloads.
-use Rattle.std.proofs.Common.{◌≡◌, ◌⊎◌, inl, inr, ◌≤◌, ℕ, ◌+◌, Bool, true, false, cond, List, [], ◌∷◌, ◌++◌, length, map, Ok, Err, refl, sym, ap, ◌∙◌, subst, arith}
+use Rattle.std.proofs.Common.{◌≡◌, inl, inr, ◌≤◌, ℕ, ◌+◌, Bool, true, false, cond, List, [], ◌∷◌, ◌++◌, length, Ok, Err, refl, sym, ap, ◌∙◌, subst, arith}
 use Rattle.std.proofs.lemmas.Bool.Decides.{nat_tests}
 use Rattle.std.proofs.lemmas.List.{map-append}
 use Rattle.std.specs.Prelude.{find, Option, Some, None, Result, nat_lt, ◌==◌}
@@ -36,7 +36,7 @@ use Rattle.ch_laws_writes.proofs.Calls.{gives, closes_one, has_id}
 use Rattle.ch_laws_writes.proofs.Ordered.{at_stored, found_own}
 use Rattle.ch_laws_fits.specs.Turns.{bytes_at}
 use Rattle.ch_laws_fits.proofs.Stores.{Stores, stored, stored_again}
-use Rattle.ch_laws_plain.specs.Talks.{frames_of, items_of, MaySpell, Written, Waiting, IsAdded, KeepsSockets, Adds, Connects, Carried, Sends, Closes}
+use Rattle.ch_laws_plain.specs.Talks.{frames_of, KeepsSockets, Adds, Connects, Carried, Sends, Closes}
 
 -- whatever was done
 abbrev AllAdd : {E : Type 0} → HostState → ℕ → Address → List Connection → List Frame → Result (List Step × HostState) E → Type 0

@@ -1,7 +1,7 @@
 -- Of each peer the opening of one connection at most isn't read yet, whatever a node hears.
 use Rattle.std.proofs.Common.{◌≡◌, ◌≤◌, ℕ, ◌+◌, Bool, true, false, cond, not, ◌&&◌, List, [], ◌∷◌, ◌++◌, map, filter, refl, sym, ap, ◌∙◌, subst, arith, ◌==◌}
 use Rattle.std.proofs.lemmas.Bool.{and_parts}
-use Rattle.std.specs.Prelude.{find, Option, Some, None}
+use Rattle.std.specs.Prelude.{find, Some, None}
 use Rattle.ch_base.specs.declared.address.Address.{Address}
 use Rattle.ch_watch.specs.Same.{same_node}
 use Rattle.ch_model.specs.NodeArrivals.{rebound}

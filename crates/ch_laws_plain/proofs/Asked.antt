@@ -1,14 +1,13 @@
 -- What a plain node asks of its host, in one turn: nothing is read, and what is written at each end is a plain stream.
-use Rattle.std.proofs.Common.{◌≡◌, ◌≤◌, ℕ, Bool, true, false, cond, List, [], ◌∷◌, ◌++◌, Ok, Err, refl, sym, ap, ◌∙◌, subst}
+use Rattle.std.proofs.Common.{◌≡◌, ◌≤◌, ℕ, Bool, true, false, cond, List, [], ◌∷◌, Ok, Err, refl, sym, ap, ◌∙◌, subst}
 use Rattle.std.specs.Prelude.{find, Option, Some, None, ◌==◌}
 use Rattle.ch_base.specs.declared.address.Address.{Address}
-use Rattle.ch_wire.specs.declared.frame.Frame.{Frame}
 use Rattle.ch_light.specs.declared.Connection.{Connection}
 use Rattle.ch_model.specs.declared.act.Act.{Act}
 use Rattle.ch_model.specs.declared.local.LocalEntry.{LocalEntry}
 use Rattle.ch_model.specs.declared.step.Step.{Step}
 use Rattle.ch_model.specs.CellSteps.{Followed, is_at, store_node, with_node, acts_on}
-use Rattle.ch_model.specs.HostState.{Socket, HostState}
+use Rattle.ch_model.specs.HostState.{Socket}
 use Rattle.ch_model.specs.HostSteps.{link_with, is_socket}
 use Rattle.ch_model.specs.NodeState.{NodeState, Arrived}
 use Rattle.ch_model.specs.WorldState.{Cell}

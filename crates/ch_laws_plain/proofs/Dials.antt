@@ -2,7 +2,6 @@
 use Rattle.std.proofs.Common.{◌≡◌, ◌⊎◌, inl, inr, ℕ, Bool, true, false, cond, List, [], ◌∷◌, ◌++◌, refl, sym, ap, ◌∙◌, subst}
 use Rattle.std.specs.Prelude.{find, slice_get, slice_set, Option, Some, None}
 use Rattle.ch_base.specs.declared.address.Address.{Address}
-use Rattle.ch_reader.specs.Items.{spellings, MayFollow}
 use Rattle.ch_reader.specs.declared.item.Expected.{Expected}
 use Rattle.ch_reader.specs.declared.item.Expected.TheVariants as expected
 use Rattle.ch_reader.specs.declared.item.Item.{Item}
@@ -18,7 +17,7 @@ use Rattle.ch_model.specs.declared.name.SockName.{SockName}
 use Rattle.ch_model.specs.declared.step.Step.{Step}
 use Rattle.ch_model.specs.declared.step.Step.TheVariants as steps
 use Rattle.ch_model.specs.CellSteps.{is_at, told_steps}
-use Rattle.ch_model.specs.HostState.{Socket, HostState}
+use Rattle.ch_model.specs.HostState.{Socket}
 use Rattle.ch_model.specs.HostSteps.{own_address, is_socket, link_with}
 use Rattle.ch_model.specs.HostWrites.{is_up}
 use Rattle.ch_model.specs.Naming.{called}
@@ -26,7 +25,7 @@ use Rattle.ch_model.specs.NodeState.{Arrived}
 use Rattle.ch_model.specs.Same.{same_socket}
 use Rattle.ch_model.specs.Stages.{Pending, is_ended}
 use Rattle.ch_model.specs.WorldHappenings.{with_cell}
-use Rattle.ch_model.specs.WorldSockets.{end_of, is_socket_named, end_of_nobody, store_in, cell_of, target_end, new_socket}
+use Rattle.ch_model.specs.WorldSockets.{is_socket_named, end_of_nobody, store_in, cell_of, target_end, new_socket}
 use Rattle.ch_model.specs.WorldState.{Cell, WorldSocket, World}
 use Rattle.ch_model.specs.WorldSteps.{all_told}
 use Rattle.ch_laws_bytes.specs.Streams.{reader_in, reader_at, readers_of, reads_at, is_over}

@@ -1,22 +1,21 @@
 -- What is unread at an end is still a plain stream when items are read there and others are written.
-use Rattle.std.proofs.Common.{◌≡◌, ℕ, Bool, true, false, cond, List, [], ◌∷◌, ◌++◌, refl, sym, ap, ◌∙◌, subst, append_assoc}
+use Rattle.std.proofs.Common.{◌≡◌, ℕ, Bool, true, false, cond, List, [], ◌++◌, refl, sym, ap, ◌∙◌, subst, append_assoc}
 use Rattle.std.proofs.lemmas.Grind.{flat_map-append}
 use Rattle.std.specs.Prelude.{find, slice_get, slice_set, Option, Some, None, ◌==◌}
 use Rattle.ch_base.specs.declared.address.Address.{Address}
 use Rattle.ch_wire.specs.declared.frame.Frame.{Frame}
 use Rattle.ch_reader.specs.Items.{item_spelling, spellings, MayFollow, expected_after}
 use Rattle.ch_reader.specs.declared.item.Expected.{Expected}
-use Rattle.ch_reader.specs.declared.item.Expected.TheVariants as expected
 use Rattle.ch_reader.specs.declared.item.Item.{Item}
 use Rattle.ch_model.specs.declared.entry.Entry.{Entry}
 use Rattle.ch_model.specs.declared.line.Line.{Line}
 use Rattle.ch_model.specs.declared.name.End.{End}
-use Rattle.ch_model.specs.declared.name.End.TheVariants.{O, T}
+use Rattle.ch_model.specs.declared.name.End.TheVariants.{O}
 use Rattle.ch_model.specs.declared.name.SockName.{SockName}
 use Rattle.ch_model.specs.declared.step.Step.{Step}
-use Rattle.ch_model.specs.HostState.{Socket, HostState}
+use Rattle.ch_model.specs.HostState.{Socket}
 use Rattle.ch_model.specs.HostSteps.{is_socket}
-use Rattle.ch_model.specs.WorldSockets.{end_of, other, is_socket_named}
+use Rattle.ch_model.specs.WorldSockets.{end_of, other}
 use Rattle.ch_model.specs.WorldState.{Cell, WorldSocket, World}
 use Rattle.ch_laws_bytes.specs.Streams.{Reader, reader_in, reader_at, readers_of, due_in, dues_of, reads_at, writes_at, first_at, Fits, Spelled, Flows, is_over, reader_of, due_of_end, MayAsk}
 use Rattle.ch_laws_bytes.proofs.Event.{Flowing, set_at}
@@ -25,7 +24,7 @@ use Rattle.ch_laws_bytes.proofs.Reading.{flows_after}
 use Rattle.ch_laws_bytes.proofs.Sockets.{flip}
 use Rattle.ch_laws_ends.proofs.Told.{Sure}
 use Rattle.ch_laws_log.proofs.Stored.{number_is}
-use Rattle.ch_laws_reads.specs.Reads.{AreRead, AreReadOf}
+use Rattle.ch_laws_reads.specs.Reads.{AreReadOf}
 use Rattle.ch_laws_reads.proofs.Stays.{read_of_spelled}
 use Rattle.ch_laws_writes.specs.Dues.{Due, Asking, Answering, Framing, due_at}
 use Rattle.ch_laws_fits.specs.Fit.{frames_in, MayAskWell}
@@ -35,7 +34,7 @@ use Rattle.ch_laws_fits.proofs.Frames.{in_append, follow, spelled_once}
 use Rattle.ch_laws_fits.proofs.Sockets.{bytes_for, bytes_of, WasThere}
 use Rattle.ch_laws_fits.proofs.Stores.{none_kind}
 use Rattle.ch_laws_fits.proofs.Told.{end_kept, asked_before}
-use Rattle.ch_laws_plain.specs.Streams.{PlainOn, IsPlainStream}
+use Rattle.ch_laws_plain.specs.Streams.{PlainOn}
 use Rattle.ch_laws_plain.specs.Plain.{pending_at, pending_there, pending_of, PlainIn, PlainAt, EndIsPlain, WorldIsPlain}
 use Rattle.ch_laws_plain.specs.Turns.{ReaderPlain, WriterPlain, CellCarries}
 use Rattle.ch_laws_plain.proofs.Streams.{plain_append}

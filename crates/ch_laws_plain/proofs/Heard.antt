@@ -17,7 +17,6 @@ use Rattle.ch_link.specs.declared.LinkState.{LinkState}
 use Rattle.ch_link.specs.declared.LinkState.TheVariants as states
 use Rattle.ch_model.specs.declared.step.Step.{Step}
 use Rattle.ch_model.specs.declared.step.Step.TheVariants as steps
-use Rattle.ch_model.specs.declared.step.Weight.{Weight}
 use Rattle.ch_model.specs.Greater.{is_greater}
 use Rattle.ch_model.specs.HostLinks.{does_act, hears}
 use Rattle.ch_model.specs.HostState.{Link, HostState}

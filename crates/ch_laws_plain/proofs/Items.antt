@@ -1,7 +1,7 @@
 -- An item that a host reads, and the end of a socket's input: the streams that it writes then are plain.
-use Rattle.std.proofs.Common.{◌≡◌, ◌⊎◌, inl, inr, ℕ, ◌+◌, Bool, true, false, cond, List, [], ◌∷◌, ◌++◌, drop, Ok, Err, refl, sym, ap, ◌∙◌, subst}
+use Rattle.std.proofs.Common.{◌≡◌, ◌⊎◌, inl, inr, ℕ, ◌+◌, Bool, true, false, cond, List, [], ◌∷◌, drop, Ok, Err, refl, sym, ap, ◌∙◌, subst}
 use Rattle.std.proofs.lemmas.Bool.{and_parts}
-use Rattle.std.specs.Prelude.{find, Option, Some, None, Result, nat_lt, ◌==◌}
+use Rattle.std.specs.Prelude.{find, Option, Some, None, Result, nat_lt}
 use Rattle.ch_base.specs.declared.address.Address.{Address}
 use Rattle.ch_base.specs.declared.event.Event.{Event}
 use Rattle.ch_base.specs.declared.event.Event.TheVariants as events
@@ -23,13 +23,11 @@ use Rattle.ch_light.specs.declared.error.LightError.{LightError}
 use Rattle.ch_light.specs.Ids.{created_of, conn_of, closed_of}
 use Rattle.ch_link.specs.Sockets.{names}
 use Rattle.ch_link.specs.declared.LinkIn.TheVariants as inputs
-use Rattle.ch_link.specs.declared.LinkState.{LinkState}
 use Rattle.ch_link.specs.declared.LinkState.TheVariants as states
-use Rattle.ch_model.specs.declared.step.SocketEvent.TheVariants as sockets
 use Rattle.ch_model.specs.declared.step.Step.{Step}
 use Rattle.ch_model.specs.declared.step.Step.TheVariants as steps
-use Rattle.ch_model.specs.Host.{front_of, is_ready_front, first_ready, takes, handles, some_steps, on_socket, host_on, host_next}
-use Rattle.ch_model.specs.HostItems.{most_arrived, posts, gone_from, is_gone, refusal_of, asks_link, reads_request, heard_answer, arrived_at, with_arrival, next_arrival, arrives, closes, receives, reads_frame, reads_on, reads_other, reads}
+use Rattle.ch_model.specs.Host.{front_of, is_ready_front, first_ready, takes, handles, some_steps, host_next}
+use Rattle.ch_model.specs.HostItems.{most_arrived, posts, gone_from, is_gone, refusal_of, asks_link, reads_request, heard_answer, arrived_at, with_arrival, next_arrival, arrives, closes, receives, reads_frame, reads_on, reads}
 use Rattle.ch_model.specs.HostLinks.{hears}
 use Rattle.ch_model.specs.HostState.{Endpoint, Link, Socket, HostState}
 use Rattle.ch_model.specs.HostSteps.{Stepped, still, after_steps, is_endpoint, link_with, with_link, with_socket, with_endpoint, is_socket}
@@ -41,13 +39,12 @@ use Rattle.ch_laws_links.proofs.Keys.{ended_rest, link_named}
 use Rattle.ch_laws_links.proofs.Readings.{Matches, FrontMatches, reading_matches}
 use Rattle.ch_laws_links.proofs.Says.{used, unused}
 use Rattle.ch_laws_writes.specs.Dues.{Due, Answering, Framing, due_of, due_staged, due_open, due_at}
-use Rattle.ch_laws_writes.specs.Orderly.{LinkFits, IsOrderly, link_at}
-use Rattle.ch_laws_fits.specs.Turns.{bytes_at, IsKind}
-use Rattle.ch_laws_fits.proofs.Stores.{Stores, stored, none_kind}
-use Rattle.ch_laws_plain.specs.Streams.{IsPlainStream}
+use Rattle.ch_laws_writes.specs.Orderly.{IsOrderly, link_at}
+use Rattle.ch_laws_fits.specs.Turns.{IsKind}
+use Rattle.ch_laws_fits.proofs.Stores.{Stores, stored}
 use Rattle.ch_laws_plain.specs.Talks.{LinkIsPlain, HostIsPlain, Talks}
 use Rattle.ch_laws_plain.proofs.Talks.{clash}
-use Rattle.ch_laws_plain.proofs.Heard.{Says, AllSay, IsWell, over_stores, quiet, alone, heard}
+use Rattle.ch_laws_plain.proofs.Heard.{Says, AllSay, IsWell, quiet, alone, heard}
 
 -- ---- links
 

@@ -1,8 +1,7 @@
 -- A connection that is opened, and what is sent on it first: both go on the link of the endpoint with the peer, under one id.
-use Rattle.std.proofs.Common.{◌≡◌, ◌≤◌, ◌<◌, ℕ, suc, ◌+◌, Bool, true, false, cond, ◌&&◌, not, List, [], ◌∷◌, ◌++◌, length, Ok, Err, refl, sym, ap, ◌∙◌, subst, arith}
-use Rattle.std.specs.Prelude.{option_map, nat_le, Option, Some, None, Result}
+use Rattle.std.proofs.Common.{◌≡◌, ◌≤◌, ◌<◌, ℕ, suc, ◌+◌, Bool, true, false, cond, not, List, [], ◌∷◌, ◌++◌, length, Ok, Err, sym, ap, ◌∙◌, subst, arith}
+use Rattle.std.specs.Prelude.{option_map, nat_le, Option, Some, None}
 use Rattle.ch_base.specs.declared.address.Address.{Address}
-use Rattle.ch_wire.specs.declared.frame.Frame.{Frame}
 use Rattle.ch_wire.specs.declared.frame.Frame.TheVariants as frames
 use Rattle.ch_light.specs.declared.TheConstants.{FIRST_ID, MOST_IDS}
 use Rattle.ch_light.specs.declared.Connection.{Connection}
@@ -10,7 +9,7 @@ use Rattle.ch_light.specs.declared.error.LightError.TheVariants.{Spent}
 use Rattle.ch_light.specs.Ids.{opened, is_open_as, id_of, give_of}
 use Rattle.ch_model.specs.declared.step.EndError.{EndError}
 use Rattle.ch_model.specs.declared.step.Step.{Step}
-use Rattle.ch_model.specs.HostCalls.{of_ids, host_connect, host_send}
+use Rattle.ch_model.specs.HostCalls.{of_ids}
 use Rattle.ch_model.specs.HostState.{Link, HostState}
 use Rattle.ch_model.specs.HostSteps.{link_with}
 use Rattle.ch_laws_links.proofs.Keys.{number_self}
@@ -18,7 +17,7 @@ use Rattle.ch_laws_connections.specs.Tables.{given_at, given_so, open_in, LinksA
 use Rattle.ch_laws_connections.specs.Senders.{once}
 use Rattle.ch_laws_connections.proofs.GivenIn.{place, some_open, opened_once, opened_length, is_placed}
 use Rattle.ch_laws_connections.proofs.HostCalls.{IsCarried, carried}
-use Rattle.ch_laws_plain.specs.Talks.{Adds, Connects, Carried, Sends}
+use Rattle.ch_laws_plain.specs.Talks.{Adds, Connects, Sends}
 use Rattle.ch_laws_plain.proofs.Talks.{adds_then}
 
 -- ---- tables

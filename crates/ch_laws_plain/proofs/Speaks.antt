@@ -1,13 +1,12 @@
 -- All that an endpoint asks of its host, one call after another: what is written then is plain.
-use Rattle.std.proofs.Common.{◌≡◌, ◌⊎◌, inl, inr, ℕ, Bool, true, false, cond, List, [], ◌∷◌, ◌++◌, map, refl, sym, ap, ◌∙◌, subst}
+use Rattle.std.proofs.Common.{◌≡◌, ◌⊎◌, inl, inr, ℕ, Bool, true, false, cond, List, [], ◌++◌, refl, sym, ap, ◌∙◌, subst}
 use Rattle.std.proofs.lemmas.List.{map-append}
-use Rattle.std.specs.Prelude.{Option, Some, None, ◌==◌}
+use Rattle.std.specs.Prelude.{None, ◌==◌}
 use Rattle.ch_base.specs.declared.address.Address.{Address}
 use Rattle.ch_wire.specs.declared.frame.Frame.{Frame}
 use Rattle.ch_reader.specs.Items.{spellings}
 use Rattle.ch_reader.specs.declared.item.Item.TheVariants as items
 use Rattle.ch_light.specs.declared.Connection.{Connection}
-use Rattle.ch_link.specs.declared.LinkState.{LinkState}
 use Rattle.ch_link.specs.declared.LinkState.TheVariants as states
 use Rattle.ch_model.specs.declared.step.Step.{Step}
 use Rattle.ch_model.specs.HostState.{Link, HostState}
@@ -16,8 +15,8 @@ use Rattle.ch_model.specs.HostWrites.{is_up}
 use Rattle.ch_laws_items.proofs.Sockets.{number_is}
 use Rattle.ch_laws_writes.proofs.Ordered.{is_key, at_key}
 use Rattle.ch_laws_fits.specs.Turns.{bytes_at}
-use Rattle.ch_laws_plain.specs.Streams.{PlainOn, IsPlainStream}
-use Rattle.ch_laws_plain.specs.Talks.{frames_of, items_of, LinkIsPlain, HostIsPlain, MaySpell, Written, Waiting, IsAdded, Adds, IsUpThere, Speaks}
+use Rattle.ch_laws_plain.specs.Streams.{IsPlainStream}
+use Rattle.ch_laws_plain.specs.Talks.{frames_of, items_of, LinkIsPlain, HostIsPlain, MaySpell, IsAdded, Adds, IsUpThere, Speaks}
 use Rattle.ch_laws_plain.proofs.Streams.{plain_append}
 use Rattle.ch_laws_plain.proofs.Talks.{clash, bytes_append, spelled_append, spell_append, up_not}
 

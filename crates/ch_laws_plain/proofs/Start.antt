@@ -1,7 +1,7 @@
 -- Where nothing has happened, a world is plain.
-use Rattle.std.proofs.Common.{◌≡◌, ◌≤◌, ℕ, zero, suc, Bool, true, false, cond, List, [], ◌∷◌, ◌++◌, map, refl, sym, ap, subst, arith}
+use Rattle.std.proofs.Common.{◌≡◌, ◌≤◌, ℕ, zero, suc, Bool, true, false, cond, List, [], ◌∷◌, ◌++◌, map, refl, sym, subst, arith}
 use Rattle.std.specs.List.{list_any}
-use Rattle.std.specs.Prelude.{find, slice_get, Option, Some, None}
+use Rattle.std.specs.Prelude.{find, slice_get, Some}
 use Rattle.ch_base.specs.declared.address.Address.{Address}
 use Rattle.ch_model.specs.declared.line.Line.{Line}
 use Rattle.ch_model.specs.Cell.{opened_for}
@@ -12,7 +12,7 @@ use Rattle.ch_model.specs.HostSteps.{is_endpoint, new_link}
 use Rattle.ch_model.specs.Node.{node_new}
 use Rattle.ch_model.specs.NodeState.{NodeState}
 use Rattle.ch_model.specs.World.{cell_at, world_new, first_of_hosts, nodes_of}
-use Rattle.ch_model.specs.WorldState.{Cell, World}
+use Rattle.ch_model.specs.WorldState.{Cell}
 use Rattle.ch_watch.specs.Watches.{nothing}
 use Rattle.ch_laws_writes.specs.Orderly.{link_at}
 use Rattle.ch_laws_plain.specs.Plain.{NodeIsPlain, CellIsPlain, WorldIsPlain}

@@ -1,8 +1,8 @@
 -- Frames that an endpoint puts, one call after another, and what its host then has written: plain streams.
-use Rattle.std.proofs.Common.{◌≡◌, ◌⊎◌, inl, inr, ℕ, Bool, true, false, cond, List, [], ◌∷◌, ◌++◌, map, refl, sym, ap, ◌∙◌, subst}
+use Rattle.std.proofs.Common.{◌≡◌, inl, inr, ℕ, Bool, true, false, cond, List, [], ◌∷◌, ◌++◌, refl, sym, ap, ◌∙◌, subst}
 use Rattle.std.proofs.lemmas.Grind.{flat_map-append}
 use Rattle.std.proofs.lemmas.List.{append_assoc, map-append}
-use Rattle.std.specs.Prelude.{Option, Some, None, ◌==◌}
+use Rattle.std.specs.Prelude.{Option, None, ◌==◌}
 use Rattle.ch_base.specs.declared.address.Address.{Address}
 use Rattle.ch_wire.specs.declared.frame.Frame.{Frame}
 use Rattle.ch_reader.specs.Items.{item_spelling, spellings, MayFollow}
@@ -18,14 +18,13 @@ use Rattle.ch_model.specs.HostState.{Link, HostState}
 use Rattle.ch_model.specs.HostSteps.{link_with}
 use Rattle.ch_model.specs.HostWrites.{is_up}
 use Rattle.ch_laws_items.proofs.Sockets.{number_is}
-use Rattle.ch_laws_writes.specs.Dues.{Due, Framing, due_at}
+use Rattle.ch_laws_writes.specs.Dues.{Due, due_at}
 use Rattle.ch_laws_writes.specs.Orderly.{IsOrderly}
-use Rattle.ch_laws_writes.proofs.Ordered.{is_key}
 use Rattle.ch_laws_fits.specs.Fit.{frames_in}
 use Rattle.ch_laws_fits.specs.Turns.{bytes_at, IsKind}
 use Rattle.ch_laws_fits.proofs.Stores.{none_kind, only_at, only_kind, only_spelled}
-use Rattle.ch_laws_plain.specs.Streams.{PlainOn, IsPlainStream}
-use Rattle.ch_laws_plain.specs.Talks.{frames_of, items_of, LinkIsPlain, MaySpell, Written, Waiting, IsAdded, Adds, Talks}
+use Rattle.ch_laws_plain.specs.Streams.{IsPlainStream}
+use Rattle.ch_laws_plain.specs.Talks.{frames_of, items_of, LinkIsPlain, MaySpell, IsAdded, Adds, Talks}
 use Rattle.ch_laws_plain.proofs.Streams.{plain_append}
 
 pub clash : {A : Type 0} → true ≡ false → A

@@ -1,18 +1,16 @@
 -- What a host has written in plain streams, at each of its ends.
-use Rattle.std.proofs.Common.{◌≡◌, ◌⊎◌, inl, inr, ℕ, Bool, true, false, List, [], ◌∷◌, Ok, refl, sym, ap, ◌∙◌, subst}
-use Rattle.std.specs.Prelude.{Option, Some, None}
+use Rattle.std.proofs.Common.{◌≡◌, ◌⊎◌, inl, inr, ℕ, Bool, true, false, List, [], Ok, refl, sym, subst}
+use Rattle.std.specs.Prelude.{Option, Some}
 use Rattle.ch_base.specs.declared.address.Address.{Address}
 use Rattle.ch_wire.specs.declared.frame.Frame.{Frame}
-use Rattle.ch_reader.specs.declared.item.Item.{Item}
 use Rattle.ch_model.specs.declared.step.Step.{Step}
 use Rattle.ch_model.specs.Host.{host_next}
 use Rattle.ch_model.specs.HostState.{HostState}
 use Rattle.ch_laws_links.specs.Naming.{IsNaming}
-use Rattle.ch_laws_writes.specs.Dues.{Due, Framing, due_at}
+use Rattle.ch_laws_writes.specs.Dues.{Due, due_at}
 use Rattle.ch_laws_writes.specs.Orderly.{IsOrderly}
 use Rattle.ch_laws_writes.proofs.Ordered.{is_key, at_key}
 use Rattle.ch_model.specs.HostSteps.{link_with}
-use Rattle.ch_laws_fits.specs.Fit.{frames_in}
 use Rattle.ch_laws_fits.specs.Turns.{bytes_at, IsKind}
 use Rattle.ch_laws_fits.proofs.Stores.{none_kind}
 use Rattle.ch_laws_plain.specs.Streams.{IsPlainStream}

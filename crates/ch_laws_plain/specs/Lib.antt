@@ -3,3 +3,10 @@ pub mod Talks
 pub mod Plain
 pub mod Acts
 pub mod Turns
+pub mod AsksAsks
+pub mod AsksGiven
+pub mod LinesRests
+pub mod MeetsMeets
+pub mod MeetsReads
+pub mod ReadsReading
+pub mod HearsTurns

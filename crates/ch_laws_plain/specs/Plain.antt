@@ -10,7 +10,7 @@ use Rattle.ch_model.specs.declared.line.Line.{Line}
 use Rattle.ch_model.specs.declared.name.End.{End}
 use Rattle.ch_model.specs.declared.name.SockName.{SockName}
 use Rattle.ch_model.specs.CellSteps.{is_at}
-use Rattle.ch_model.specs.HostState.{Socket, HostState}
+use Rattle.ch_model.specs.HostState.{Socket}
 use Rattle.ch_model.specs.HostSteps.{link_with, is_socket}
 use Rattle.ch_model.specs.NodeState.{NodeState, Bound, Unread, Arrived}
 use Rattle.ch_model.specs.WorldSockets.{end_of, is_socket_named}

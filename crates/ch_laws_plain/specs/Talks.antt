@@ -1,5 +1,5 @@
 -- What a host writes for a link, and what waits there: plain streams.
-use Rattle.std.specs.Prelude.{◌≡◌, ◌⊎◌, ℕ, Bool, true, false, cond, ◌==◌, List, [], ◌∷◌, ◌++◌, map, find, Option, Some, Result, Ok, Err}
+use Rattle.std.specs.Prelude.{◌≡◌, ◌⊎◌, ℕ, Bool, true, false, cond, ◌==◌, List, [], ◌∷◌, ◌++◌, map, find, Some, Result, Ok, Err}
 use Rattle.ch_base.specs.declared.address.Address.{Address}
 use Rattle.ch_wire.specs.Spelling.{IsFrame}
 use Rattle.ch_wire.specs.declared.frame.Frame.{Frame}
@@ -12,15 +12,15 @@ use Rattle.ch_light.specs.declared.Connection.{Connection}
 use Rattle.ch_link.specs.declared.LinkState.TheVariants.{Up}
 use Rattle.ch_model.specs.declared.step.Step.{Step}
 use Rattle.ch_model.specs.declared.step.Weight.{Weight}
-use Rattle.ch_model.specs.HostCalls.{of_ids, found_or, carries}
+use Rattle.ch_model.specs.HostCalls.{of_ids, carries}
 use Rattle.ch_model.specs.HostState.{Link, Socket, HostState}
 use Rattle.ch_model.specs.HostSteps.{link_with, is_socket}
 use Rattle.ch_model.specs.HostWrites.{is_up}
-use Rattle.ch_laws_writes.specs.Dues.{Due, due_at}
+use Rattle.ch_laws_writes.specs.Dues.{due_at}
 use Rattle.ch_laws_writes.proofs.Ordered.{is_key}
 use Rattle.ch_laws_fits.specs.Fit.{frames_in}
 use Rattle.ch_laws_fits.specs.Turns.{bytes_at, IsKind}
-use Rattle.ch_laws_plain.specs.Streams.{PlainOn, IsPlainStream}
+use Rattle.ch_laws_plain.specs.Streams.{IsPlainStream}
 
 -- ---- links
 

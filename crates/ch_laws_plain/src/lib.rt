@@ -8,6 +8,12 @@
 //! No code: definitions, and laws as clauses of empty functions, over the model below.
 #![tactic(auto)]
 
+pub mod asks;
+pub mod lines;
+pub mod meets;
+pub mod reads;
+pub mod hears;
+
 ghost use Rattle.std.specs.Prelude.{◌≡◌, ◌≤◌, ℕ, false, List, [], ◌∷◌, ◌++◌, map, find, slice_get, slice_set, Some, None, Ok};
 ghost use Rattle.ch_base.specs.declared.address.Address.{Address};
 ghost use Rattle.ch_wire.specs.declared.frame.Frame.{Frame};

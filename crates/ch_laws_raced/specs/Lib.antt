@@ -1,1 +1,5 @@
 pub mod Given
+pub mod UnbrokenBreaks
+pub mod UnbrokenGiven
+pub mod OnceBegun
+pub mod OnceOnce

@@ -5,6 +5,9 @@
 //! is so of hosts, sockets and frames, and is moves of each pair, is proved in the crates between.
 #![tactic(auto)]
 
+pub mod unbroken;
+pub mod once;
+
 ghost use Rattle.std.specs.Prelude.{◌≡◌, ◌++◌, ℕ, true, List, Ok};
 ghost use Rattle.ch_model.specs.declared.entry.Entry.{Entry};
 ghost use Rattle.ch_model.specs.declared.line.Line.{Line};

@@ -1,5 +1,5 @@
 use Rattle.ch_laws_plain_logs.specs.Plain.{IsPlain}
-use Rattle.ch_laws_unbroken.specs.Breaks.{NoBreaks}
+use Rattle.ch_laws_raced.specs.UnbrokenBreaks.{NoBreaks}
 use Rattle.ch_laws_peers.proofs.Logs.{many_stand, by_log}
 use Rattle.ch_laws_peers.proofs.all_dials_are_of_peers.Goals as goal
 

@@ -1,9 +1,0 @@
-pub mod Acts
-pub mod Calls
-pub mod Told
-pub mod Begun
-pub mod Kept
-pub mod Together
-pub mod Across
-pub mod Hears
-pub mod Over

@@ -1,5 +1,0 @@
-use Rattle.ch_laws_once.proofs.Calls.{on_goes, next_goes, connect_goes, send_goes, close_goes}
-use Rattle.ch_laws_once.proofs.links_go_on.Goals as goal
-
-pub returns : goal.returns
-returns c = record { on = on_goes; next = next_goes; connect = connect_goes; send = send_goes; close = close_goes }

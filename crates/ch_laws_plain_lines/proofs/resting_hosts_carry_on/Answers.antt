@@ -1,8 +1,0 @@
-use Rattle.ch_laws_plain_lines.proofs.Rests.{rests_carries, rests_joined}
-use Rattle.ch_laws_plain_lines.proofs.resting_hosts_carry_on.Goals as goal
-
-pub returns-clause-carries : goal.returns-clause-carries
-returns-clause-carries c = rests_carries
-
-pub returns-clause-joined : goal.returns-clause-joined
-returns-clause-joined c = rests_joined

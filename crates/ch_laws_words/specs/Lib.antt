@@ -1,4 +1,0 @@
-pub mod Words
-pub mod Says
-pub mod Reads
-pub mod Standing
