@@ -4,4 +4,5 @@ pub mod NamesFit
 pub mod LinesWell
 pub mod LogWell
 pub mod Fronts
+pub mod Follows
 pub mod Sayings

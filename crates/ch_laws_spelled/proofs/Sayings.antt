@@ -18,7 +18,7 @@ use Rattle.ch_model.specs.AccountsFrames.{Saying, payload_to}
 use Rattle.ch_model.specs.Same.{node_of}
 use Rattle.ch_model.specs.World.{names_of}
 use Rattle.ch_laws_plain_logs.specs.Plain.{said_by}
-use Rattle.ch_laws_spelled.specs.Sayings.{IsSaidWell, IsCounted}
+use Rattle.ch_laws_spelled.specs.Sayings.{IsWellSaid, IsCounted}
 use Rattle.ch_laws_spelled.specs.Spelled.{IsSpelled, IsSentWell, IsWell, SaysWell}
 use Rattle.ch_laws_spelled.proofs.Fronts.{first_such}
 use Rattle.ch_laws_spelled.proofs.NamesFit.{has_id}
@@ -30,7 +30,7 @@ user_read m is = rw (name_reads.again m.mark m.body is) refl
 
 -- ---- one saying
 
-pub saying_well : (journal : List Line) (by : ProcName) (to : TargetName) (epoch index : ℕ) (mark body : List ℕ) → IsSentWell (names_of journal) by to mark → IsSaidWell journal (record { by = by; to = to; epoch = epoch; index = index; mark = mark; body = body })
+pub saying_well : (journal : List Line) (by : ProcName) (to : TargetName) (epoch index : ℕ) (mark body : List ℕ) → IsSentWell (names_of journal) by to mark → IsWellSaid journal (record { by = by; to = to; epoch = epoch; index = index; mark = mark; body = body })
 saying_well journal by to epoch index mark body w = record {
   marked = w.marked;
   from = has_id journal by w.from;
@@ -50,23 +50,23 @@ one_such P (y ∷ xs) all (suc i) x e = one_such P xs all.1 i x e
 
 -- what is said anywhere in the log
 pub entry_well : (journal : List Line) (log : List Entry) → SaysWell journal log → (i : ℕ) (by : ProcName) (to : TargetName) (epoch index : ℕ) (mark body : List ℕ) → slice_get log i ≡ Some (entries.Said by to epoch index mark body)
-    → IsSaidWell journal (record { by = by; to = to; epoch = epoch; index = index; mark = mark; body = body })
+    → IsWellSaid journal (record { by = by; to = to; epoch = epoch; index = index; mark = mark; body = body })
 entry_well journal log well i by to epoch index mark body e = saying_well journal by to epoch index mark body (one_such (IsWell journal) log well i (entries.Said by to epoch index mark body) e)
 
 -- what a node says to another
-pub all_sayings : (journal : List Line) (x y : List ℕ) (log : List Entry) → SaysWell journal log → AllByRecursion (IsSaidWell journal) (filter_map (said_by x y) log)
+pub all_sayings : (journal : List Line) (x y : List ℕ) (log : List Entry) → SaysWell journal log → AllByRecursion (IsWellSaid journal) (filter_map (said_by x y) log)
 all_sayings journal x y [] well = tt
 all_sayings journal x y (entry ∷ log) well = by_entry entry well.0 (filter_map (said_by x y) log) (all_sayings journal x y log well.1) where
-  by_test : (b : Bool) (s : Saying) (rest : List Saying) → IsSaidWell journal s → AllByRecursion (IsSaidWell journal) rest → AllByRecursion (IsSaidWell journal) (cons_option (if b then Some s else None) rest)
+  by_test : (b : Bool) (s : Saying) (rest : List Saying) → IsWellSaid journal s → AllByRecursion (IsWellSaid journal) rest → AllByRecursion (IsWellSaid journal) (cons_option (if b then Some s else None) rest)
   by_test true s rest w more = (w, more)
   by_test false s rest w more = more
 
-  by_entry : (entry : Entry) → IsWell journal entry → (rest : List Saying) → AllByRecursion (IsSaidWell journal) rest → AllByRecursion (IsSaidWell journal) (cons_option (said_by x y entry) rest)
+  by_entry : (entry : Entry) → IsWell journal entry → (rest : List Saying) → AllByRecursion (IsWellSaid journal) rest → AllByRecursion (IsWellSaid journal) (cons_option (said_by x y entry) rest)
   by_entry (entries.Said by to epoch index mark body) w rest more = by_test (bytes_eq by.node x && bytes_eq (node_of to) y) (record { by = by; to = to; epoch = epoch; index = index; mark = mark; body = body }) rest (saying_well journal by to epoch index mark body w) more
   by_entry entry w rest more = more
 
-pub saying_at : (journal : List Line) (x y : List ℕ) (log : List Entry) → SaysWell journal log → (i : ℕ) (s : Saying) → slice_get (filter_map (said_by x y) log) i ≡ Some s → IsSaidWell journal s
-saying_at journal x y log well i s e = one_such (IsSaidWell journal) (filter_map (said_by x y) log) (all_sayings journal x y log well) i s e
+pub saying_at : (journal : List Line) (x y : List ℕ) (log : List Entry) → SaysWell journal log → (i : ℕ) (s : Saying) → slice_get (filter_map (said_by x y) log) i ≡ Some s → IsWellSaid journal s
+saying_at journal x y log well i s e = one_such (IsWellSaid journal) (filter_map (said_by x y) log) (all_sayings journal x y log well) i s e
 
 -- the counters of what an entry says
 pub is_counted : (journal : List Line) (entry : Entry) → IsWell journal entry → IsCounted entry

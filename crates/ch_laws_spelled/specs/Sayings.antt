@@ -23,7 +23,7 @@ pub record HasId (journal : List Line) (p : ProcName) : Type 0 where
 
 -- a saying is from a process to a process, each with such an id, under a mark that is a name: its payload is read back as its mark
 -- and its body
-pub record IsSaidWell (journal : List Line) (s : Saying) : Type 0 where
+pub record IsWellSaid (journal : List Line) (s : Saying) : Type 0 where
   pub marked : is_name s.mark ≡ true
   pub from : HasId journal s.by
   pub receiver : ProcName
