@@ -86,6 +86,7 @@ fair_of journal log world lines s = record {
   bundle = s.lively.has.bundle;
   up_alone = s.lively.has.alone;
   dial_while_down = s.lively.has.down;
+  dial_once = s.once.once;
   breaks = plainly.breaks;
   notices = plainly.notices;
   references = plainly.references;

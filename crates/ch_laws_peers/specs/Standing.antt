@@ -14,6 +14,7 @@ use Rattle.ch_laws_plain.specs.Plain.{WorldIsPlain}
 use Rattle.ch_laws_plain_logs.specs.Plain.{IsPlain}
 use Rattle.ch_laws_plain.specs.MeetsMeets.{AllMeet}
 use Rattle.ch_laws_raced.specs.Given.{Given, All}
+use Rattle.ch_laws_raced.specs.OnceOnce.{DialsOnce}
 use Rattle.ch_laws_raced.specs.UnbrokenBreaks.{NoBreaks}
 
 -- the journal is of many nodes: with different names and addresses that can be spelled
@@ -23,13 +24,14 @@ pub record IsOfNodes (journal : List Line) : Type 0 where
   pub addresses : AreAddresses (names_of journal)
 
 -- Hosts and world agree (`all`, and `given` for each two nodes), each two nodes are a pair of the race, of which at most one socket is live
--- and nothing breaks, all dials are between two nodes, nodes and hosts agree, streams are plain, and so are all entries.
+-- and nothing breaks, who dials a peer does so once, all dials are between two nodes, nodes and hosts agree, streams are plain, and so are all entries.
 pub record Standing (journal : List Line) (log : List Entry) (world : World) : Type 0 where
   pub all : All journal log world
   pub each_pair : Given journal log world
   pub raced : Raced journal log world
   pub lively : IsLively log
   pub unbroken : NoBreaks log
+  pub once : DialsOnce journal log world
   pub peers : Peers journal log world
   pub meets : AllMeet log world
   pub plain : WorldIsPlain journal world

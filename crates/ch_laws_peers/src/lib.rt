@@ -24,7 +24,8 @@ ghost use Rattle.ch_laws_peers.specs.Standing.{IsOfNodes, Standing};
 ghost use Rattle.ch_laws_peers.specs.Fair.{IsFair};
 
 /// In a journal of many nodes each turn keeps all of this: hosts and world agree, and nodes with their hosts; all dials are between
-/// two nodes, each two nodes are a pair of the race, of which at most one socket is live, and nothing breaks; streams are plain, and
+/// two nodes, each two nodes are a pair of the race, of which at most one socket is live, nothing breaks, and who dials a peer does so
+/// once; streams are plain, and
 /// so are all entries. So it is where nothing has happened, and after any first lines of a journal that the grammar of many nodes
 /// reads, of whatever bytes.
 pub fn all_stands_in_journals()
@@ -43,7 +44,7 @@ pub fn all_dials_are_of_peers()
 {}
 
 /// Such a log is fair, after any of its lines: at most one socket of each two nodes is live, and no link is accepted over one that is
-/// up; nodes come up and dial where they are down; and breaks, notices, references, names, dooms, ports and what is settled follow
+/// up; nodes come up and dial where they are down, and dial a peer once; and breaks, notices, references, names, dooms, ports and what is settled follow
 /// their rules.
 pub fn logs_are_fair()
     ensures whole { (bytes : List ℕ) (log : List Entry) → log_of (journal_of many_nodes bytes) ≡ Ok log → IsFair (journal_of many_nodes bytes) log }
