@@ -1,7 +1,7 @@
 //! The laws of one dial, and of frames over links: in a journal of many nodes, between which nothing is lost, a node dials a peer once, and
 //! what a host reads on the socket of a link was written by a node that came up there.
 //!
-//! No code: laws as clauses of empty functions, over the model below. ch_laws_unbroken has that no link of such a journal breaks; so a
+//! No code: laws as clauses of empty functions, over the model below. `unbroken` has that no link of such a journal breaks; so a
 //! link that has begun isn't idle again, and a host dials only for a link that is idle. Where a frame is unread at an end that is up,
 //! the end across is up by the machine of ch_race; and here it is said of the log.
 
