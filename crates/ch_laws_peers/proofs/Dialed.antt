@@ -66,7 +66,7 @@ item_reads journal j addresses log world place cell steps host told after at doe
     let p = k.1.1.cells place cell at in
     let w = next_writes (own_of journal place) cell.0.host host steps n o p.host does in
     turn_carries (own_of journal place) cell.0 steps host told after n (next_naming cell.0.host host steps n does).naming p (k.0.1 place cell at).1 w.0
-        (peers_read_plain journal j addresses log world k.0.0.sound (users_used journal log world j k.0.0.users) k.0.0.unknocked k.1.0 k.1.1 place cell at) w.1 (reads.next_reads (own_of journal place) cell.0.host host steps n o p.host does) all
+    (peers_read_plain journal j addresses log world k.0.0.sound (users_used journal log world j k.0.0.users) k.0.0.unknocked k.1.0 k.1.1 place cell at) w.1 (reads.next_reads (own_of journal place) cell.0.host host steps n o p.host does) all
 
 -- the input of a socket ends
 pub end_reads : (journal : List Line) → IsJournal journal → AreAddresses (names_of journal) → (log : List Entry) (world : World) (place sock : ℕ) (cell : Cell × ℕ) (steps : List Step) (host : HostState) (told : List LocalEntry) (after : Cell) → slice_get world.cells place ≡ Some cell → host_on cell.0.host (sockets.Ended sock) ≡ Ok (steps, host)
@@ -76,7 +76,7 @@ end_reads journal j addresses log world place sock cell steps host told after at
     let o = orderly journal log world place cell at k in
     let p = k.1.1.cells place cell at in
     turn_carries (own_of journal place) cell.0 steps host told after n (event_naming cell.0.host host (sockets.Ended sock) steps tt n does).naming p (k.0.1 place cell at).1 (reads.ended_plain cell.0.host host sock steps p.host does)
-        (peers_read_plain journal j addresses log world k.0.0.sound (users_used journal log world j k.0.0.users) k.0.0.unknocked k.1.0 k.1.1 place cell at) (reads.ended_writes (own_of journal place) cell.0.host host sock steps does) (reads.ended_reads (own_of journal place) cell.0.host host sock steps n o does) all
+    (peers_read_plain journal j addresses log world k.0.0.sound (users_used journal log world j k.0.0.users) k.0.0.unknocked k.1.0 k.1.1 place cell at) (reads.ended_writes (own_of journal place) cell.0.host host sock steps does) (reads.ended_reads (own_of journal place) cell.0.host host sock steps n o does) all
 
 -- ---- each turn
 

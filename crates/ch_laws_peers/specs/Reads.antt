@@ -1,13 +1,16 @@
 -- What a node has read of what another has written for it, what is under way between them, and what its connections are bound to.
-use Rattle.std.specs.Prelude.{◌≡◌, ◌≤◌, ◌<◌, ◌-◌, ℕ, suc, slice_get, Bool, true, false, ◌==◌, List, [], ◌∷◌, ◌++◌, length, take, drop, count_by, filter_map, find, map, Option, Some, None}
+use Rattle.std.specs.Prelude.{◌≡◌, ◌≤◌, ◌<◌, ◌-◌, ◌+◌, ℕ, suc, slice_get, Bool, true, false, ◌==◌, List, [], ◌∷◌, ◌++◌, length, take, drop, count_by, filter_map, find, map, Option, Some, None}
+use Rattle.ch_base.specs.declared.address.Address.{Address}
 use Rattle.ch_ident.specs.declared.identifier.Identifier.TheVariants as ends
 use Rattle.ch_ident.specs.declared.identifier.ProcessId.{ProcessId}
 use Rattle.ch_ident.specs.declared.node_message.NodeMessage.TheVariants.{Opening}
+use Rattle.ch_ident.specs.Fits.{IsProcess}
 use Rattle.ch_ident.specs.Spelling.{message}
+use Rattle.ch_light.specs.declared.TheConstants.{FIRST_ID}
 use Rattle.ch_light.specs.Ids.{id_of}
 use Rattle.ch_link.specs.declared.LinkState.{LinkState}
 use Rattle.ch_link.specs.declared.LinkState.TheVariants.{Up}
-use Rattle.ch_reader.specs.Items.{spellings, MayFollow}
+use Rattle.ch_reader.specs.Items.{item_spelling, spellings, MayFollow, expected_after}
 use Rattle.ch_reader.specs.declared.item.Expected.{Expected}
 use Rattle.ch_reader.specs.declared.item.Expected.TheVariants as expected
 use Rattle.ch_reader.specs.declared.item.Front.TheVariants.{Whole}
@@ -23,24 +26,26 @@ use Rattle.ch_model.specs.declared.name.ProcName.{ProcName}
 use Rattle.ch_model.specs.declared.name.SockName.{SockName}
 use Rattle.ch_model.specs.declared.name.TargetName.TheVariants as names
 use Rattle.ch_model.specs.declared.step.Place.{Place}
-use Rattle.ch_model.specs.AccountsFrames.{pair_opening}
+use Rattle.ch_model.specs.AccountsFrames.{Saying, pair_opening}
 use Rattle.ch_model.specs.AccountsItems.{first_payload}
+use Rattle.ch_model.specs.Declarations.{process_id}
 use Rattle.ch_model.specs.Delivery.{gets_in}
 use Rattle.ch_model.specs.Host.{front_of, first_ready}
 use Rattle.ch_model.specs.HostState.{Socket}
 use Rattle.ch_model.specs.HostWrites.{is_up}
-use Rattle.ch_model.specs.Naming.{process_called}
-use Rattle.ch_model.specs.NodeIds.{is_own, is_living}
+use Rattle.ch_model.specs.Naming.{Names, process_called}
+use Rattle.ch_model.specs.NodeIds.{is_own, is_living, target_at}
 use Rattle.ch_model.specs.NodeState.{NodeState, Bound, Unread, Void, ToTarget, Arrived}
-use Rattle.ch_model.specs.Same.{across}
+use Rattle.ch_model.specs.Same.{across, is_end_of}
+use Rattle.ch_model.specs.Sockets.{writings}
 use Rattle.ch_model.specs.WorldSockets.{end_of, is_socket_named, find_end}
 use Rattle.ch_model.specs.WorldState.{Cell, WorldSocket, World}
 use Rattle.ch_model.specs.WorldSteps.{on_end, reads_item}
 use Rattle.ch_race.specs.Pair.{Side, other}
-use Rattle.ch_laws_bytes.specs.Streams.{Reader, reader_of, is_over}
+use Rattle.ch_laws_bytes.specs.Streams.{Reader, reader_of, first_at, is_over}
 use Rattle.ch_laws_race.specs.Scene.{Party, link_of}
 use Rattle.ch_laws_calls.specs.Scenes.{IsPairOf, scene_of}
-use Rattle.ch_laws_peers.specs.Words.{Placed, words_in, datas_in}
+use Rattle.ch_laws_peers.specs.Words.{Placed, words_in, datas_in, placing, sayings}
 use Rattle.ch_laws_peers.specs.Says.{towards, IsUpOn, node_of}
 
 -- ---- what is under way
@@ -66,6 +71,44 @@ pub record UnderWay (reader : Reader) (unread : List ℕ) (places : List (Option
 abbrev pub IsUnderWay : Option Reader → List ℕ → List (Option Place) → List Placed → Type 0
 IsUnderWay None unread places frames = Unit {0}
 IsUnderWay (Some reader) unread places frames = UnderWay reader unread places frames
+
+-- an item, and the place of the message that it carries, if any
+abbrev pub PlacedItem : Type 0
+PlacedItem = Item × Option Place
+
+abbrev pub items_in : List PlacedItem → List Item
+items_in all = map (λ (one : PlacedItem). one.0) all
+
+abbrev pub places_in : List PlacedItem → List (Option Place)
+places_in all = map (λ (one : PlacedItem). one.1) all
+
+-- each by its bytes
+abbrev pub spelled_in : List PlacedItem → List (List ℕ)
+spelled_in all = map (λ (one : PlacedItem). item_spelling one.0) all
+
+abbrev pub frames_among : List Placed → List Frame
+frames_among frames = map (λ (placed : Placed). placed.0) frames
+
+-- these frames have the places that the sayings give them
+abbrev pub AreTruly : List Saying → List Placed → Type 0
+AreTruly said frames = placing said [] 0 (frames_among frames) ≡ frames
+
+-- All that was written towards an end is items, the first of which is of that kind: some are read there, and the others are unread,
+-- each with its place; and the frames have the places of what they carry.
+pub record Way (reader : Reader) (first : Expected) (unread : List ℕ) (places : List (Option Place)) (wrote : List (List ℕ)) (said : List Saying) : Type 0 where
+  pub gone : List PlacedItem
+  pub all : List PlacedItem
+  pub is : wrote ≡ spelled_in (gone ++ all)
+  pub may : MayFollow first (items_in (gone ++ all))
+  pub at : reader.0 ≡ expected_after first (items_in gone)
+  pub bytes : reader.1 ++ unread ≡ spellings (items_in all)
+  pub stand : places ≡ places_in all
+  pub truly : AreTruly said (placed_in (gone ++ all))
+
+-- so it is where something reads there
+abbrev pub IsWay : Option Reader → Expected → List ℕ → List (Option Place) → List (List ℕ) → List Saying → Type 0
+IsWay None first unread places wrote said = Unit {0}
+IsWay (Some reader) first unread places wrote said = Way reader first unread places wrote said
 
 -- How many of so many frames that were written towards an end are read there: all but those of which the places stand, once the reader
 -- expects frames; before that none.
@@ -101,6 +144,10 @@ pub record Comes (log : List Entry) (world : World) (party : Side → Party) (x 
       → IsUnderWay (reader_of world socket (across e)) (end_of (across e) socket).unread (end_of (across e) socket).places (drop (reads party world x log) (towards (party x).name (party (other x)).name log))
   pub before : is_up (link_of (scene_of party world) (other x)).state ≡ false → reads party world x log ≡ 0
   pub one : (s : SockName) (e : End) → IsUpOn party world x s e → is_up (link_of (scene_of party world) (other x)).state ≡ true → IsUpOn party world (other x) s (across e)
+  -- so it is at each end of the other, whether x is up there or not; and nothing was written on a socket that isn't there
+  pub ways : (s : SockName) (e : End) (socket : WorldSocket) → is_end_of (party x).name (party (other x)).name s e ≡ true → find (is_socket_named s) world.sockets ≡ Some socket → is_over (end_of (across e) socket) ≡ false
+      → IsWay (reader_of world socket (across e)) (first_at (across e)) (end_of (across e) socket).unread (end_of (across e) socket).places (writings log s e) (sayings (party x).name (party (other x)).name log)
+  pub unopened : (s : SockName) (e : End) → is_end_of (party x).name (party (other x)).name s e ≡ true → find (is_socket_named s) world.sockets ≡ None → writings log s e ≡ []
 
 abbrev pub AllCome : List Line → List Entry → World → Type 0
 AllCome journal log world = (party : Side → Party) → IsPairOf journal party → (x : Side) → Comes log world party x
@@ -165,7 +212,7 @@ gets_of p q log = count_by (gets_in p (names.Process q) 0) log
 -- What was got of a pair is no more than what was read under the id that was opened for it; and all of that, where the connection leads
 -- to a process that isn't over.
 pub record GetsRead (journal : List Line) (log : List Entry) (world : World) (party : Side → Party) (x : Side) (read : List (ℕ × List ℕ)) : Type 0 where
-  pub most : (p q : ProcName) (id : ℕ) (opening : List ℕ) → pair_opening journal p (names.Process q) ≡ Some opening → first_payload id read ≡ Some opening → gets_of p q log ≤ after_first id read
+  pub most : (p q : ProcName) (id : ℕ) (opening : List ℕ) → p.node ≡ (party x).name → q.node ≡ (party (other x)).name → pair_opening journal p (names.Process q) ≡ Some opening → first_payload id read ≡ Some opening → gets_of p q log ≤ after_first id read
   pub none : (p q : ProcName) → p.node ≡ (party x).name → q.node ≡ (party (other x)).name → ((id : ℕ) (opening : List ℕ) → pair_opening journal p (names.Process q) ≡ Some opening → first_payload id read ≡ Some opening → ⊥) → gets_of p q log ≡ 0
   pub all : (node : NodeState) (arrived : Arrived) (from to : ProcessId) (id : ℕ) → node_of party world (other x) ≡ Some node → find (λ (known : Arrived). known.conn == arrived.conn) node.arrived ≡ Some arrived → same_node arrived.peer (party x).address ≡ true → arrived.bound ≡ ToTarget from (targets.Process to)
       → is_living node to ≡ true → id_of (link_of (scene_of party world) (other x)).created arrived.conn ≡ Some id → gets_of (process_called world.names from) (process_called world.names to) log ≡ after_first id read
@@ -176,11 +223,38 @@ pub record GetsRead (journal : List Line) (log : List Entry) (world : World) (pa
 abbrev pub read_of : (Side → Party) → World → Side → List Entry → List (ℕ × List ℕ)
 read_of party world x log = datas_in (words_in (take (reads party world x log) (towards (party x).name (party (other x)).name log)))
 
+-- the ids are those of two processes, of the first node and of the second, as they are called, with numbers of four bytes
+pub record IsOfPair (journal : List Line) (known : Names) (a b : List ℕ) (from to : ProcessId) : Type 0 where
+  pub from_is : process_id journal (process_called known from) ≡ Some from
+  pub to_is : process_id journal (process_called known to) ≡ Some to
+  pub from_node : (process_called known from).node ≡ a
+  pub to_node : (process_called known to).node ≡ b
+  pub from_fits : IsProcess from
+  pub to_fits : IsProcess to
+
+-- a connection that goes to a process or port goes to one at this address
+abbrev pub LeadsHere : Address → Bound → Type 0
+LeadsHere own (ToTarget from to) = same_node (target_at to) own ≡ true
+LeadsHere own bound = Unit {0}
+
+abbrev pub AllLeadHere : Address → List Arrived → Type 0
+AllLeadHere own [] = Unit {0}
+AllLeadHere own (arrived ∷ rest) = LeadsHere own arrived.bound × AllLeadHere own rest
+
+-- Each connection from x leads from a process of x to one of the other node, and all that arrived there goes to it. An id under which
+-- something was read is one of those that were created there.
+pub record GetsPairs (journal : List Line) (world : World) (party : Side → Party) (x : Side) (read : List (ℕ × List ℕ)) : Type 0 where
+  pub pairs : (node : NodeState) (arrived : Arrived) (from to : ProcessId) → node_of party world (other x) ≡ Some node → find (λ (known : Arrived). known.conn == arrived.conn) node.arrived ≡ Some arrived → same_node arrived.peer (party x).address ≡ true
+      → arrived.bound ≡ ToTarget from (targets.Process to) → IsOfPair journal world.names (party x).name (party (other x)).name from to
+  pub reached : (node : NodeState) → node_of party world (other x) ≡ Some node → AllLeadHere node.own node.arrived
+  pub below : (id : ℕ) (opening : List ℕ) → first_payload id read ≡ Some opening → id < FIRST_ID + length (link_of (scene_of party world) (other x)).created
+
 -- what has arrived from x is bound by what was read, and that was got
 pub record Gets (journal : List Line) (log : List Entry) (world : World) (party : Side → Party) (x : Side) : Type 0 where
   pub binds : BindsAll world party x (read_of party world x log)
   pub made : MakesAll world party x
   pub gets : GetsRead journal log world party x (read_of party world x log)
+  pub leads : GetsPairs journal world party x (read_of party world x log)
 
 abbrev pub AllGet : List Line → List Entry → World → Type 0
 AllGet journal log world = (party : Side → Party) → IsPairOf journal party → (x : Side) → Gets journal log world party x

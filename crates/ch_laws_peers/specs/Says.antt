@@ -1,6 +1,6 @@
 -- What a node has said to another, and what it has written for it or keeps until their link is up.
 use Rattle.std.specs.List.{list_any}
-use Rattle.std.specs.Prelude.{◌≡◌, ◌⊎◌, ℕ, Bool, true, false, ◌==◌, not, ◌&&◌, List, [], ◌∷◌, ◌++◌, length, find, slice_get, Option, Some, None}
+use Rattle.std.specs.Prelude.{◌≡◌, ◌⊎◌, ◌≤◌, ℕ, Bool, true, false, ◌==◌, not, ◌&&◌, List, [], ◌∷◌, ◌++◌, length, find, slice_get, Option, Some, None}
 use Rattle.ch_ident.specs.declared.identifier.ProcessId.{ProcessId}
 use Rattle.ch_light.specs.Ids.{id_of}
 use Rattle.ch_link.specs.declared.LinkState.TheVariants.{Up}
@@ -22,7 +22,7 @@ use Rattle.ch_model.specs.Logs.{collected, never}
 use Rattle.ch_model.specs.Naming.{process_as, process_called}
 use Rattle.ch_model.specs.NodeIds.{process_id, is_living}
 use Rattle.ch_model.specs.NodePairs.{is_pair, pair_of}
-use Rattle.ch_model.specs.NodeState.{NodeState, Pair, Unopened, Opened}
+use Rattle.ch_model.specs.NodeState.{NodeState, Pair, Unopened, Opened, Broken}
 use Rattle.ch_model.specs.Same.{is_end_of, same_process, same_target}
 use Rattle.ch_model.specs.Sockets.{writings}
 use Rattle.ch_model.specs.WorldSockets.{find_end}
@@ -102,8 +102,11 @@ pub record Says (journal : List Line) (log : List Entry) (world : World) (party 
   -- process isn't over, has said nothing; and no two ids were opened for one pair
   pub declared : (node : NodeState) (pair : Pair) (to : ProcessId) → node_of party world x ≡ Some node → find (is_pair pair.by pair.to) node.pairs ≡ Some pair → pair.to ≡ targets.Process to → to.node ≡ (party (other x)).address → to ≡ process_as world.names (process_called world.names to)
   pub opened : (node : NodeState) (by : ℕ) (to : ProcessId) (conn : ℕ) → node_of party world x ≡ Some node → to.node ≡ (party (other x)).address → (pair_of node.pairs by (targets.Process to)).mark ≡ Opened conn → HasOpened journal party log world x node by to conn
-  pub unopened : (node : NodeState) (by : ℕ) (to : ProcessId) → node_of party world x ≡ Some node → to.node ≡ (party (other x)).address → (pair_of node.pairs by (targets.Process to)).mark ≡ Unopened → is_living node (process_id node by) ≡ true
+  pub unopened : (node : NodeState) (by : ℕ) (to : ProcessId) → node_of party world x ≡ Some node → to.node ≡ (party (other x)).address → to ≡ process_as world.names (process_called world.names to) → (pair_of node.pairs by (targets.Process to)).mark ≡ Unopened → is_living node (process_id node by) ≡ true
       → has_said (process_called world.names (process_id node by)) (process_called world.names to) (sayings (party x).name (party (other x)).name log) ≡ false
+  -- no pair is broken, and a process that isn't made yet has said nothing
+  pub unbroken : (node : NodeState) (by : ℕ) (to : ProcessId) → node_of party world x ≡ Some node → to.node ≡ (party (other x)).address → (pair_of node.pairs by (targets.Process to)).mark ≡ Broken → ⊥
+  pub unmade : (node : NodeState) (by : ℕ) (q : ProcName) → node_of party world x ≡ Some node → length node.mail ≤ by → has_said (process_called world.names (process_id node by)) q (sayings (party x).name (party (other x)).name log) ≡ false
   pub alone : (i j : ℕ) (opening : List ℕ) → first_payload i (datas_in (words_in (all_towards party world x log))) ≡ Some opening → first_payload j (datas_in (words_in (all_towards party world x log))) ≡ Some opening → i ≡ j
 
 -- so it is of each two nodes of the journal, both ways

@@ -9,10 +9,10 @@
 #![tactic(auto)]
 
 pub mod asks;
+pub mod hears;
 pub mod lines;
 pub mod meets;
 pub mod reads;
-pub mod hears;
 
 ghost use Rattle.std.specs.Prelude.{◌≡◌, ◌≤◌, ℕ, false, List, [], ◌∷◌, ◌++◌, map, find, slice_get, slice_set, Some, None, Ok};
 ghost use Rattle.ch_base.specs.declared.address.Address.{Address};

@@ -5,8 +5,8 @@
 //! is so of hosts, sockets and frames, and is moves of each pair, is proved in the crates between.
 #![tactic(auto)]
 
-pub mod unbroken;
 pub mod once;
+pub mod unbroken;
 
 ghost use Rattle.std.specs.Prelude.{◌≡◌, ◌++◌, ℕ, true, List, Ok};
 ghost use Rattle.ch_model.specs.declared.entry.Entry.{Entry};
