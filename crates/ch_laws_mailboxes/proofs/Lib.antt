@@ -1,0 +1,14 @@
+pub mod Logs
+pub mod Mails
+pub mod Nodes
+pub mod Told
+pub mod Places
+pub mod Turned
+pub mod Worlds
+pub mod Calls
+pub mod Hears
+pub mod Turns
+pub mod Kept
+pub mod Answers
+pub mod Fronts
+pub mod Sayings

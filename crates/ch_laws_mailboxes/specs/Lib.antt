@@ -1,0 +1,4 @@
+pub mod Mail
+pub mod Given
+pub mod Said
+pub mod Answers
