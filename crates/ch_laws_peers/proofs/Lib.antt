@@ -3,3 +3,4 @@ pub mod Dialed
 pub mod Plainly
 pub mod Together
 pub mod Logs
+pub mod Hearing
