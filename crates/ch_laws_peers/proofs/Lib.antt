@@ -3,4 +3,3 @@ pub mod Dialed
 pub mod Plainly
 pub mod Together
 pub mod Logs
-pub mod Hearing
