@@ -1,0 +1,3 @@
+pub mod ReadingGoes
+pub mod SaidWell
+pub mod Receipts

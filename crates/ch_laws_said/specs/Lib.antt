@@ -1,0 +1,4 @@
+pub mod Goes
+pub mod Puts
+pub mod Sends
+pub mod Heeds

@@ -1,0 +1,2 @@
+//! What is under way between two nodes of a journal.
+#![tactic(auto)]
