@@ -1,5 +1,5 @@
 -- A node and its host on the connections that have arrived: the number of the next is new, and the one that has an id is the node's.
-use Rattle.std.proofs.Common.{◌≡◌, ◌≤◌, ◌<◌, ℕ, zero, suc, ◌+◌, ◌*◌, ◌-◌, nat_lt, nat_le, Bool, true, false, cond, not, ◌&&◌, ◌==◌, List, [], ◌∷◌, ◌++◌, length, filter, Ok, Err, refl, sym, ap, ◌∙◌, subst, arith}
+use Rattle.std.proofs.Common.{◌≡◌, ◌≤◌, ◌<◌, ℕ, zero, suc, ◌+◌, ◌-◌, nat_lt, nat_le, Bool, true, false, cond, ◌&&◌, ◌==◌, List, [], ◌∷◌, ◌++◌, length, Ok, Err, refl, sym, ap, ◌∙◌, subst, arith}
 use Rattle.std.specs.Prelude.{find, option_map, position, slice_get, slice_set, Option, Some, None, Result}
 use Rattle.std.proofs.lemmas.Bool.{and_parts}
 use Rattle.std.proofs.lemmas.Bool.Decides.{nat_tests}
@@ -13,16 +13,14 @@ use Rattle.ch_light.proofs.OpenIds.{found, absent}
 use Rattle.ch_watch.specs.Same.{same_node}
 use Rattle.ch_model.specs.HostItems.{arrived_at, next_arrival}
 use Rattle.ch_model.specs.HostState.{HostState}
-use Rattle.ch_model.specs.HostSteps.{link_with}
 use Rattle.ch_model.specs.NodeState.{Arrived}
 use Rattle.ch_laws_log.proofs.Homes.{node_self}
 use Rattle.ch_laws_log.proofs.Keys.{node_is}
 use Rattle.ch_laws_log.proofs.Stored.{number_is, number_same}
 use Rattle.ch_laws_connections.specs.Tables.{open_in}
 use Rattle.ch_laws_connections.specs.Senders.{once, total}
-use Rattle.ch_laws_connections.specs.Arrivals.{made_at, made_so, has_come, IsOfArrived, MadeOnce, Meets}
-use Rattle.ch_laws_got.proofs.Lists.{clash, none_some, some_is}
-use Rattle.ch_laws_got.proofs.Tables.{Given, given, got_within, position_cons}
+use Rattle.ch_laws_connections.specs.Arrivals.{made_at, made_so, has_come, IsOfArrived, Meets}
+use Rattle.ch_laws_got.proofs.Tables.{given, got_within, position_cons}
 use Rattle.ch_laws_got.proofs.Moves.{has_conn}
 
 -- ---- how often

@@ -1,6 +1,6 @@
 -- A node makes a process, or does what a process asks of it: nothing changes of what was got from another node.
-use Rattle.std.proofs.Common.{◌≡◌, ◌⊎◌, inl, inr, ℕ, ◌+◌, Bool, true, false, cond, ◌&&◌, List, [], ◌∷◌, ◌++◌, map, Ok, Err, refl, sym, ap, ◌∙◌, subst, arith}
-use Rattle.std.specs.Prelude.{find, slice_get, slice_set, Option, Some, None, Result, ◌==◌}
+use Rattle.std.proofs.Common.{◌≡◌, ℕ, ◌+◌, Bool, true, false, ◌&&◌, List, [], ◌∷◌, ◌++◌, map, Ok, Err, refl, sym, ap, ◌∙◌, subst, arith}
+use Rattle.std.specs.Prelude.{find, slice_get, Some, Result, ◌==◌}
 use Rattle.std.specs.Str.{bytes_eq}
 use Rattle.std.proofs.lemmas.Bool.{and_parts}
 use Rattle.std.proofs.lemmas.Slice.Eq.{bytes_eq-Decides}
@@ -8,15 +8,12 @@ use Rattle.ch_base.specs.declared.address.Address.{Address}
 use Rattle.ch_base.specs.declared.event.Room.{Room}
 use Rattle.ch_ident.specs.declared.identifier.ProcessId.{ProcessId}
 use Rattle.ch_ident.specs.declared.message.Message.{Message}
-use Rattle.ch_light.specs.declared.Connection.{Connection}
 use Rattle.ch_static.specs.declared.command.Command.{Command}
 use Rattle.ch_static.specs.declared.command.Command.TheVariants as commands
 use Rattle.ch_static.specs.declared.target.Target.{Target}
 use Rattle.ch_static.specs.declared.target.Target.TheVariants as targets
-use Rattle.ch_watch.specs.Same.{same_node}
 use Rattle.ch_model.specs.declared.act.Act.{Act}
 use Rattle.ch_model.specs.declared.act.Act.TheVariants as acts
-use Rattle.ch_model.specs.declared.command.CommandError.{CommandError}
 use Rattle.ch_model.specs.declared.entry.Entry.{Entry}
 use Rattle.ch_model.specs.declared.line.Line.{Line}
 use Rattle.ch_model.specs.declared.line.What.{What}
@@ -30,13 +27,11 @@ use Rattle.ch_model.specs.declared.note.Note.TheVariants as notes
 use Rattle.ch_model.specs.declared.step.EndError.{EndError}
 use Rattle.ch_model.specs.declared.step.EndError.TheVariants as errors
 use Rattle.ch_model.specs.declared.step.Step.{Step}
-use Rattle.ch_model.specs.Cell.{room_for}
-use Rattle.ch_model.specs.CellSteps.{Followed, after_entries, ◌then◌, is_at, store_node, with_node, told_steps, asked, act_on, acts_on}
+use Rattle.ch_model.specs.CellSteps.{Followed, after_entries, ◌then◌, is_at, with_node, told_steps, asked, act_on, acts_on}
 use Rattle.ch_model.specs.HostCalls.{host_connect, host_send, host_close}
 use Rattle.ch_model.specs.HostState.{HostState}
-use Rattle.ch_model.specs.HostSteps.{link_with}
 use Rattle.ch_model.specs.Naming.{Names, called, process_as, process_called, target_called}
-use Rattle.ch_model.specs.Node.{node_make, node_command, target_node}
+use Rattle.ch_model.specs.Node.{node_command}
 use Rattle.ch_model.specs.NodeIds.{process_id, is_here}
 use Rattle.ch_model.specs.NodePairs.{conns_by}
 use Rattle.ch_model.specs.NodeState.{NodeState, Arrived, Mark, Unopened, Opened, Broken}
@@ -48,29 +43,23 @@ use Rattle.ch_model.specs.WorldSteps.{all_told}
 use Rattle.ch_race.specs.Pair.{Side, other}
 use Rattle.ch_laws_bytes.proofs.Told.{told_names}
 use Rattle.ch_laws_connections.specs.Arrivals.{made_at}
-use Rattle.ch_laws_connections.specs.Fits.{FitsAs, CellHolds}
-use Rattle.ch_laws_connections.specs.Senders.{Own, sender_of, Sender}
+use Rattle.ch_laws_connections.specs.Fits.{FitsAs}
+use Rattle.ch_laws_connections.specs.Senders.{sender_of, Sender}
 use Rattle.ch_laws_connections.specs.Tables.{LinksApart}
-use Rattle.ch_laws_connections.proofs.Acts.{Moves, After, act_fits}
+use Rattle.ch_laws_connections.proofs.Acts.{After, act_fits}
 use Rattle.ch_laws_connections.proofs.MadeCalls.{ActQuiet, act_quiet}
 use Rattle.ch_laws_ends.proofs.Changes.{told_cells}
 use Rattle.ch_laws_lives.specs.Rolls.{LivesOn}
-use Rattle.ch_laws_lives.proofs.NodesTold as lives
 use Rattle.ch_laws_log.proofs.Keys.{node_is}
-use Rattle.ch_laws_log.proofs.Stored.{number_is, number_same}
 use Rattle.ch_laws_many.specs.ManyLines.{is_of_many}
-use Rattle.ch_laws_plain.specs.Plain.{CellIsPlain}
-use Rattle.ch_laws_plain_nodes.specs.Does.{Makes, Does, Takes, Ends, SendsAway, SendsHome, said_note, said_on, sent_acts, pair_between, got_acts}
-use Rattle.ch_laws_plain_nodes.specs.Plain.{IsPlain, IsToProcess, IsPlainCommand}
-use Rattle.ch_laws_plain_nodes.proofs.Calls.{makes}
+use Rattle.ch_laws_plain_nodes.specs.Does.{Makes, sent_acts, pair_between, got_acts}
+use Rattle.ch_laws_plain_nodes.specs.Plain.{IsPlain, IsPlainCommand}
 use Rattle.ch_laws_plain_nodes.proofs.Commands as plain
-use Rattle.ch_laws_plain_nodes.proofs.Steps.{given_so}
 use Rattle.ch_laws_race.specs.Scene.{Party}
 use Rattle.ch_laws_turns.specs.Turns.{told_on}
 use Rattle.ch_laws_peers.specs.Reads.{AllLeadHere, gets_of, read_of, Gets}
-use Rattle.ch_laws_got.proofs.Lists.{clash, some_is}
 use Rattle.ch_laws_got.proofs.Moves.{has_conn}
-use Rattle.ch_laws_got.proofs.Living.{all_lead_to, all_lead_here, lives_of}
+use Rattle.ch_laws_got.proofs.Living.{all_lead_here, lives_of}
 use Rattle.ch_laws_got.proofs.Bounds.{SameGot}
 use Rattle.ch_laws_got.proofs.Told.{is_got, NoneGot, got_both, none_told}
 use Rattle.ch_laws_got.proofs.Worlds.{node_turn}

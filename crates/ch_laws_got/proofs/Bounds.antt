@@ -20,14 +20,14 @@ use Rattle.ch_model.specs.AccountsItems.{first_payload}
 use Rattle.ch_model.specs.Naming.{Names, process_called}
 use Rattle.ch_model.specs.NodeArrivals.{rebound, bind}
 use Rattle.ch_model.specs.NodeIds.{is_own, life_here, is_living}
-use Rattle.ch_model.specs.NodeState.{NodeState, Bound, Unread, Void, FromNode, ToNames, ToTarget, Arrived}
+use Rattle.ch_model.specs.NodeState.{NodeState, Bound, Void, ToTarget, Arrived}
 use Rattle.ch_laws_log.proofs.Stored.{number_is, number_same}
 use Rattle.ch_laws_race.specs.Scene.{Party}
 use Rattle.ch_laws_peers.specs.Reads.{IsBoundBy, after_first, gets_of, IsOfPair, AllLeadHere}
-use Rattle.ch_laws_got.proofs.Lists.{clash, none_some, some_is, under, first_stays, first_next, first_else, after_next, after_else, after_new}
+use Rattle.ch_laws_got.proofs.Lists.{clash, none_some, some_is, first_stays, first_next, first_else, after_next, after_else, after_new}
 use Rattle.ch_laws_got.proofs.Tables.{one_id, id_within}
 use Rattle.ch_laws_got.proofs.Living.{living_there}
-use Rattle.ch_laws_got.proofs.Moves.{has_conn, GetsAt, bound_some, of_pair_opens, Lives, Stays, own_so}
+use Rattle.ch_laws_got.proofs.Moves.{has_conn, GetsAt, bound_some, of_pair_opens, Stays, own_so}
 
 -- no two ids were opened by one message
 abbrev pub AreAlone : List (ℕ × List ℕ) → Type 0

@@ -1,10 +1,9 @@
 -- An end is joined, has come, is handed bytes or the end of its input: nothing changes of what was got.
-use Rattle.std.proofs.Common.{◌≡◌, ◌⊎◌, inl, inr, ℕ, ◌+◌, ◌*◌, Bool, true, false, cond, List, [], ◌∷◌, ◌++◌, Ok, Err, refl, sym, ap, ◌∙◌, subst, arith}
-use Rattle.std.specs.Prelude.{find, slice_get, slice_set, Option, Some, None, Result, ◌==◌}
+use Rattle.std.proofs.Common.{◌≡◌, ℕ, ◌+◌, Bool, true, false, cond, List, [], ◌∷◌, ◌++◌, Ok, Err, refl, ap, ◌∙◌, subst, arith}
+use Rattle.std.specs.Prelude.{find, slice_get, slice_set, Option, Some, None}
 use Rattle.ch_base.specs.declared.address.Address.{Address}
 use Rattle.ch_model.specs.declared.entry.Entry.{Entry}
 use Rattle.ch_model.specs.declared.line.Line.{Line}
-use Rattle.ch_model.specs.declared.local.LocalEntry.{LocalEntry}
 use Rattle.ch_model.specs.declared.name.ProcName.{ProcName}
 use Rattle.ch_model.specs.declared.step.SocketEvent.{SocketEvent}
 use Rattle.ch_model.specs.declared.step.SocketEvent.TheVariants as sockets
@@ -25,7 +24,6 @@ use Rattle.ch_laws_ends.proofs.Changes.{told_cells}
 use Rattle.ch_laws_race.specs.Scene.{Party}
 use Rattle.ch_laws_calls.specs.Calls.{with_host, done_at}
 use Rattle.ch_laws_writes.specs.Orderly.{link_at}
-use Rattle.ch_laws_peers.specs.Says.{node_in}
 use Rattle.ch_laws_peers.specs.Reads.{gets_of, read_of, Gets}
 use Rattle.ch_laws_got.proofs.Bounds.{SameGot}
 use Rattle.ch_laws_got.proofs.Told.{steps_got, got_both}

@@ -1,15 +1,14 @@
 -- How many messages of a pair were carried before the next one, by what was said and by what was read.
-use Rattle.std.proofs.Common.{◌≡◌, ◌⊎◌, inl, inr, ◌≤◌, ℕ, zero, suc, ◌+◌, Bool, true, false, cond, ◌&&◌, List, [], ◌∷◌, ◌++◌, length, map, take, refl, sym, ap, ◌∙◌, subst, arith}
-use Rattle.std.specs.Prelude.{filter_map, find, slice_get, count_by, Option, Some, None, ◌==◌}
-use Rattle.std.specs.List.{cons_option}
+use Rattle.std.proofs.Common.{◌≡◌, ℕ, suc, ◌+◌, Bool, true, false, cond, List, [], ◌∷◌, ◌++◌, take, refl, sym, ap, ◌∙◌, subst, arith}
+use Rattle.std.specs.Prelude.{slice_get, count_by, Option, Some, None, ◌==◌}
 use Rattle.std.proofs.lemmas.List.Sums.{sum_by-append}
 use Rattle.ch_model.specs.declared.line.Line.{Line}
 use Rattle.ch_model.specs.AccountsFrames.{Saying, pair_opening}
 use Rattle.ch_model.specs.AccountsItems.{first_payload}
 use Rattle.ch_laws_log.proofs.Stored.{number_is, number_same}
-use Rattle.ch_laws_peers.specs.Words.{Word, datas_in, carried_after, Carries, TrueWord, TrueWords}
+use Rattle.ch_laws_peers.specs.Words.{Word, datas_in, carried_after, TrueWord, TrueWords}
 use Rattle.ch_laws_peers.specs.Reads.{after_first}
-use Rattle.ch_laws_got.proofs.Lists.{clash, none_some, some_is, first_stays, first_next, first_else, after_next, after_else, after_new, after_none, take_next}
+use Rattle.ch_laws_got.proofs.Lists.{clash, some_is, first_stays, after_next, after_else, after_new, after_none, take_next}
 use Rattle.ch_laws_got.proofs.Bounds.{AreAlone}
 
 pub count_both : {A : Type 0} (test : A → Bool) (xs ys : List A) → count_by test (xs ++ ys) ≡ count_by test xs + count_by test ys

@@ -1,5 +1,5 @@
 -- Where nothing has happened nothing has arrived, nothing is read, and nothing was got.
-use Rattle.std.proofs.Common.{◌≡◌, ℕ, zero, suc, Bool, true, false, cond, List, [], ◌∷◌, map, take, refl, sym, ap, ◌∙◌, subst}
+use Rattle.std.proofs.Common.{◌≡◌, ℕ, zero, suc, Bool, true, false, cond, List, [], ◌∷◌, map, take, refl, sym, ap, subst}
 use Rattle.std.specs.Prelude.{find, slice_get, Option, Some, None}
 use Rattle.ch_base.specs.declared.address.Address.{Address}
 use Rattle.ch_model.specs.declared.line.Line.{Line}
@@ -8,7 +8,7 @@ use Rattle.ch_model.specs.CellSteps.{is_at}
 use Rattle.ch_model.specs.Node.{node_new}
 use Rattle.ch_model.specs.NodeState.{NodeState, Arrived}
 use Rattle.ch_model.specs.World.{nodes_of, cell_at, first_of_hosts, world_new}
-use Rattle.ch_model.specs.WorldState.{Cell, World}
+use Rattle.ch_model.specs.WorldState.{Cell}
 use Rattle.ch_race.specs.Pair.{Side, other}
 use Rattle.ch_laws_race.specs.Scene.{Party}
 use Rattle.ch_laws_peers.specs.Words.{words_in, datas_in}

@@ -1,6 +1,6 @@
 -- What a node makes of a frame of a connection from another node, and what it has got then.
-use Rattle.std.proofs.Common.{◌≡◌, ◌⊎◌, inl, inr, ◌≤◌, ◌<◌, ℕ, suc, ◌+◌, Bool, true, false, cond, ◌&&◌, List, [], ◌∷◌, ◌++◌, map, length, Ok, Err, refl, sym, ap, ◌∙◌, subst, arith}
-use Rattle.std.specs.Prelude.{find, Option, Some, None, Result, ◌==◌}
+use Rattle.std.proofs.Common.{◌≡◌, ◌⊎◌, inl, inr, ◌≤◌, ℕ, suc, ◌+◌, Bool, true, false, cond, ◌&&◌, List, [], ◌∷◌, ◌++◌, length, Ok, refl, sym, ap, ◌∙◌, subst, arith}
+use Rattle.std.specs.Prelude.{find, Option, Some, None, ◌==◌}
 use Rattle.std.specs.Str.{bytes_eq}
 use Rattle.std.proofs.lemmas.Bool.{and_parts}
 use Rattle.std.proofs.lemmas.Slice.Eq.{bytes_eq-Decides}
@@ -39,7 +39,7 @@ use Rattle.ch_laws_connections.specs.Arrivals.{made_at, Meets}
 use Rattle.ch_laws_lives.specs.Rolls.{roll_of, Permits, ArePermitted, notes_in, LivesOn}
 use Rattle.ch_laws_race.specs.Scene.{Party}
 use Rattle.ch_laws_peers.specs.Reads.{IsBoundBy, after_first, gets_of, IsOfPair, AllLeadHere}
-use Rattle.ch_laws_got.proofs.Lists.{clash, none_some, some_is, first_stays}
+use Rattle.ch_laws_got.proofs.Lists.{clash, some_is, first_stays}
 use Rattle.ch_laws_got.proofs.Moves.{has_conn, GetsAt, Lives, Stays, gets_stay, found_in, gets_open, of_pair_opens}
 use Rattle.ch_laws_got.proofs.Living.{roll_living, lives_of, all_lead_here}
 use Rattle.ch_laws_got.proofs.Bounds.{AreAlone, SameGot, IsAt, bound_then, found_bound, gets_bind, GotMore, gets_more}

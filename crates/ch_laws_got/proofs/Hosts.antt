@@ -1,6 +1,6 @@
 -- What a host does as it reads an item, told exactly: a frame of a connection brings one event, and all else brings none, as long as no link breaks.
 use Rattle.std.proofs.Common.{◌≡◌, ◌⊎◌, inl, inr, ℕ, ◌+◌, Bool, true, false, cond, ◌||◌, List, [], ◌∷◌, map, drop, Ok, Err, refl, sym, ap, ◌∙◌, subst}
-use Rattle.std.specs.Prelude.{find, Option, Some, None, Result, nat_lt, ◌==◌}
+use Rattle.std.specs.Prelude.{find, Option, Some, None, Result, nat_lt}
 use Rattle.std.proofs.lemmas.Bool.{and_parts}
 use Rattle.ch_base.specs.declared.address.Address.{Address}
 use Rattle.ch_base.specs.declared.event.Event.{Event}
@@ -38,7 +38,7 @@ use Rattle.ch_model.specs.HostLinks.{does_act, hears}
 use Rattle.ch_model.specs.HostState.{Link, Socket, Endpoint, HostState}
 use Rattle.ch_model.specs.HostSteps.{Stepped, still, after_steps, own_address, link_with, with_link, with_socket, with_endpoint, is_socket, is_endpoint}
 use Rattle.ch_model.specs.HostWrites.{leaves, answers_and_leaves, frame_step}
-use Rattle.ch_model.specs.Stages.{is_open, is_ended}
+use Rattle.ch_model.specs.Stages.{is_open}
 use Rattle.ch_laws_items.proofs.Next.{Served, served}
 use Rattle.ch_laws_links.specs.Naming.{IsNaming, IsDialedBy, IsUpFor}
 use Rattle.ch_laws_links.proofs.Keys.{number_self}
@@ -48,7 +48,7 @@ use Rattle.ch_laws_writes.specs.Orderly.{IsOrderly}
 use Rattle.ch_laws_writes.proofs.Ordered.{is_key}
 use Rattle.ch_laws_fits.proofs.Stores.{Stores, stored}
 use Rattle.ch_laws_plain.specs.Talks.{HostIsPlain}
-use Rattle.ch_laws_plain.specs.ReadsReading.{posts_in, Nothing, Brings}
+use Rattle.ch_laws_plain.specs.ReadsReading.{posts_in, Brings}
 use Rattle.ch_laws_plain.proofs.ReadsBrought.{own_key}
 use Rattle.ch_laws_plain.proofs.ReadsEnds.{not_over}
 use Rattle.ch_laws_plain.proofs.ReadsTurns.{next_done, next_reads, ended_reads}

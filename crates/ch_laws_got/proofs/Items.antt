@@ -1,35 +1,13 @@
 -- A host reads an item: what was got of each node at each other is as it should be then.
-use Rattle.std.proofs.Common.{◌≡◌, ◌⊎◌, inl, inr, ◌≤◌, ◌<◌, ℕ, suc, ◌+◌, Bool, true, false, cond, ◌&&◌, List, [], ◌∷◌, ◌++◌, map, length, Ok, Err, refl, sym, ap, ◌∙◌, subst, arith}
-use Rattle.std.specs.Prelude.{find, slice_get, slice_set, Option, Some, None, Result, ◌==◌, IsTrue}
-use Rattle.std.specs.Str.{bytes_eq}
-use Rattle.std.proofs.lemmas.Bool.{and_parts}
-use Rattle.std.proofs.lemmas.Slice.Eq.{bytes_eq-Decides}
-use Rattle.ch_base.specs.declared.address.Address.{Address}
-use Rattle.ch_base.specs.declared.event.Event.{Event}
-use Rattle.ch_base.specs.declared.event.Event.TheVariants as events
+use Rattle.std.proofs.Common.{◌≡◌, ℕ, ◌+◌, Bool, true, false, cond, ◌&&◌, List, [], ◌∷◌, ◌++◌, length, refl, sym, ap, ◌∙◌, subst}
+use Rattle.std.specs.Prelude.{find, slice_get, Option, Some, None, ◌==◌}
 use Rattle.ch_ident.specs.declared.identifier.ProcessId.{ProcessId}
-use Rattle.ch_ident.specs.declared.message.Message.{Message}
 use Rattle.ch_ident.specs.Names.{is_name}
-use Rattle.ch_ident.specs.Spelling.{user}
-use Rattle.ch_light.specs.declared.Connection.{Connection}
-use Rattle.ch_light.specs.declared.TheConstants.{FIRST_ID}
-use Rattle.ch_light.specs.Ids.{created_of, closed_of, conn_of}
-use Rattle.ch_link.specs.declared.LinkState.{LinkState}
-use Rattle.ch_link.specs.declared.LinkState.TheVariants as states
-use Rattle.ch_reader.specs.declared.item.Front.{Front}
-use Rattle.ch_reader.specs.declared.item.Front.TheVariants.{Whole}
-use Rattle.ch_reader.specs.declared.item.Item.TheVariants as items
 use Rattle.ch_static.specs.declared.target.Target.TheVariants as targets
-use Rattle.ch_watch.specs.Same.{same_node}
 use Rattle.ch_wire.specs.declared.frame.Frame.{Frame}
 use Rattle.ch_wire.specs.declared.frame.Frame.TheVariants as frames
-use Rattle.ch_model.specs.declared.act.Act.{Act}
-use Rattle.ch_model.specs.declared.act.Act.TheVariants as acts
 use Rattle.ch_model.specs.declared.entry.Entry.{Entry}
-use Rattle.ch_model.specs.declared.entry.Entry.TheVariants as entries
 use Rattle.ch_model.specs.declared.line.Line.{Line}
-use Rattle.ch_model.specs.declared.local.LocalEntry.{LocalEntry}
-use Rattle.ch_model.specs.declared.local.LocalEntry.TheVariants as local
 use Rattle.ch_model.specs.declared.name.End.{End}
 use Rattle.ch_model.specs.declared.name.ProcName.{ProcName}
 use Rattle.ch_model.specs.declared.name.SockName.{SockName}
@@ -37,64 +15,26 @@ use Rattle.ch_model.specs.declared.name.TargetName.{TargetName}
 use Rattle.ch_model.specs.declared.name.TargetName.TheVariants as names
 use Rattle.ch_model.specs.declared.note.Note.TheVariants as notes
 use Rattle.ch_model.specs.declared.step.Place.{Place}
-use Rattle.ch_model.specs.declared.step.Step.{Step}
-use Rattle.ch_model.specs.declared.step.Step.TheVariants as steps
-use Rattle.ch_model.specs.AccountsFrames.{Saying, pair_opening, payload_to, payload_of}
-use Rattle.ch_model.specs.AccountsItems.{data_of, first_payload}
-use Rattle.ch_model.specs.CellSteps.{is_at, store_node, with_node, told_steps, acts_on, steps_on, posted}
-use Rattle.ch_model.specs.Delivery.{gets_in}
-use Rattle.ch_model.specs.Epochs.{epoch_of, is_said_in_epoch}
-use Rattle.ch_model.specs.Host.{front_of, first_ready, host_next}
-use Rattle.ch_model.specs.HostItems.{next_arrival}
-use Rattle.ch_model.specs.HostState.{Link, Socket, HostState}
-use Rattle.ch_model.specs.HostSteps.{link_with, is_socket}
-use Rattle.ch_model.specs.Naming.{Names, called, process_called, target_called}
-use Rattle.ch_model.specs.Node.{node_event}
-use Rattle.ch_model.specs.NodeState.{NodeState}
+use Rattle.ch_model.specs.AccountsFrames.{Saying, payload_to}
+use Rattle.ch_model.specs.AccountsItems.{first_payload}
+use Rattle.ch_model.specs.Naming.{Names, process_called}
 use Rattle.ch_model.specs.Same.{same_process, same_target}
-use Rattle.ch_model.specs.WorldHappenings.{with_cell}
-use Rattle.ch_model.specs.World.{world_new}
-use Rattle.ch_model.specs.WorldSockets.{is_socket_named, end_of, find_end, cell_of}
+use Rattle.ch_model.specs.WorldSockets.{is_socket_named, find_end}
 use Rattle.ch_model.specs.WorldState.{Cell, WorldSocket, World}
-use Rattle.ch_model.specs.WorldSteps.{or_first, note_entry, noted, first_place, item_is_read, reads_item, on_end, local_told, all_told}
+use Rattle.ch_model.specs.WorldSteps.{or_first, note_entry, item_is_read, reads_item}
 use Rattle.ch_race.specs.Pair.{Side, other}
-use Rattle.ch_laws_bytes.proofs.Lines.{own_of}
-use Rattle.ch_laws_bytes.proofs.Told.{told_names}
-use Rattle.ch_laws_connections.specs.Arrivals.{made_at, Meets, MeetsAs}
-use Rattle.ch_laws_ends.proofs.Changes.{told_cells}
-use Rattle.ch_laws_links.specs.Naming.{IsNaming, IsUpFor}
-use Rattle.ch_laws_links.proofs.Says.{risen}
-use Rattle.ch_laws_lives.specs.Rolls.{LivesOn}
-use Rattle.ch_laws_lives.proofs.NodesTold.{node_lives, on_event}
-use Rattle.ch_laws_log.proofs.Homes.{node_self}
-use Rattle.ch_laws_log.proofs.Keys.{node_is}
-use Rattle.ch_laws_log.proofs.Stored.{number_is, number_same}
-use Rattle.ch_laws_plain.specs.Plain.{NodeIsPlain, CellIsPlain}
-use Rattle.ch_laws_race.proofs.Readings.{other_twice}
-use Rattle.ch_laws_race.specs.Scene.{Party, host_in, link_of}
-use Rattle.ch_laws_calls.specs.Calls.{with_host}
-use Rattle.ch_laws_calls.specs.Scenes.{IsPairOf, SceneFacts, scene_of}
-use Rattle.ch_laws_turns.specs.Turns.{told_on}
-use Rattle.ch_laws_writes.proofs.Ordered.{is_key}
-use Rattle.ch_laws_peers.specs.Words.{Placed, words_in, datas_in, sayings, Carries, TrueWord, TrueWords}
-use Rattle.ch_laws_peers.specs.Says.{towards, node_in, node_of, Says, AllSay}
-use Rattle.ch_laws_peers.specs.Reads.{reads, item_read, ReadsNext, ReadsOne, ReadsNone, AllCome, gets_of, read_of, AllLeadHere, Gets, AllGet}
-use Rattle.ch_laws_peers.specs.Standing.{IsOfNodes, Standing}
-use Rattle.ch_laws_got.specs.ReadingGoes.{Known, Grown, OneRead}
-use Rattle.ch_laws_got.specs.SaidWell.{IsSaidWell, SaidWell}
-use Rattle.ch_laws_got.proofs.Lists.{clash, none_some, some_is, first_stays, first_else, after_next, after_else}
-use Rattle.ch_laws_got.proofs.Tables.{got_within}
-use Rattle.ch_laws_got.proofs.Moves.{has_conn, GetsAt, at_party, of_party, Stays}
-use Rattle.ch_laws_got.proofs.Living.{all_lead_to, all_lead_here}
-use Rattle.ch_laws_got.proofs.Bounds.{AreAlone, SameGot, gets_nobody}
-use Rattle.ch_laws_got.proofs.Arrivals.{conn_within, created_is, closed_is}
-use Rattle.ch_laws_got.proofs.Hosts.{has_broke, DoesAs, Brought, Calm, NextDoes, next_does}
-use Rattle.ch_laws_got.proofs.Told.{calm_told, brought_told, HeardBy, heard_by, none_broke, is_got, NoneGot, steps_got, got_both, step_none}
-use Rattle.ch_laws_got.proofs.Hearing.{GotOne, tells_got, GotSo, EventDone, ReadsOpening, ReadsMessage, ReadsWord, created_done, closed_done, data_done}
-use Rattle.ch_laws_got.proofs.Asked.{told_same}
-use Rattle.ch_laws_got.proofs.Links.{IsLinkOf, link_pair}
+use Rattle.ch_laws_log.proofs.Stored.{number_same}
+use Rattle.ch_laws_race.specs.Scene.{Party}
+use Rattle.ch_laws_calls.specs.Scenes.{IsPairOf, SceneFacts}
+use Rattle.ch_laws_peers.specs.Words.{sayings, Carries, TrueWord, TrueWords}
+use Rattle.ch_laws_peers.specs.Says.{towards, Says}
+use Rattle.ch_laws_peers.specs.Reads.{reads, item_read, gets_of, read_of}
+use Rattle.ch_laws_got.specs.SaidWell.{SaidWell}
+use Rattle.ch_laws_got.proofs.Lists.{some_is}
+use Rattle.ch_laws_got.proofs.Bounds.{AreAlone}
+use Rattle.ch_laws_got.proofs.Hearing.{ReadsOpening, ReadsMessage, ReadsWord}
 use Rattle.ch_laws_got.proofs.Words.{true_next, IsSaying, saying_is, opened_by_one, SaidPair, said_pair}
-use Rattle.ch_laws_got.proofs.Worlds.{names_apart, read_same, read_more, read_no_data, Follows, follows, alone_next, still, at_place, node_at, created_at, cell_still, node_turn}
+use Rattle.ch_laws_got.proofs.Worlds.{Follows, follows, alone_next}
 
 -- ---- the next message
 

@@ -1,7 +1,6 @@
 -- What is got is kept, turn by turn; and where nothing has happened nothing was got.
-use Rattle.std.proofs.Common.{◌≡◌, ◌⊎◌, inl, inr, ℕ, ◌+◌, ◌*◌, Bool, true, false, List, [], ◌∷◌, ◌++◌, length, take, drop, Ok, Err, refl, sym, ap, ◌∙◌, subst, arith}
-use Rattle.std.specs.Prelude.{find, slice_get, slice_set, Option, Some, None, Result}
-use Rattle.ch_base.specs.declared.address.Address.{Address}
+use Rattle.std.proofs.Common.{◌≡◌, ◌⊎◌, inl, inr, ℕ, ◌+◌, ◌*◌, true, false, List, [], ◌∷◌, ◌++◌, length, drop, Ok, refl, sym, ap, ◌∙◌, subst, arith}
+use Rattle.std.specs.Prelude.{find, slice_get, slice_set, Some, None, Result}
 use Rattle.ch_base.specs.declared.event.Room.{Room}
 use Rattle.ch_static.specs.declared.command.Command.{Command}
 use Rattle.ch_model.specs.declared.act.Act.{Act}
@@ -26,9 +25,9 @@ use Rattle.ch_model.specs.HostSteps.{link_with}
 use Rattle.ch_model.specs.Node.{node_make, node_command, target_node}
 use Rattle.ch_model.specs.NodeIds.{process_id}
 use Rattle.ch_model.specs.NodeState.{NodeState}
-use Rattle.ch_model.specs.World.{names_of, world_new}
+use Rattle.ch_model.specs.World.{names_of}
 use Rattle.ch_model.specs.WorldHappenings.{with_cell}
-use Rattle.ch_model.specs.WorldSockets.{end_of, opened}
+use Rattle.ch_model.specs.WorldSockets.{opened}
 use Rattle.ch_model.specs.WorldState.{Cell, WorldEnd, WorldSocket, World}
 use Rattle.ch_model.specs.WorldSteps.{all_told}
 use Rattle.ch_race.specs.Pair.{Side, other}
@@ -43,27 +42,26 @@ use Rattle.ch_laws_connections.proofs.Nodes as agrees
 use Rattle.ch_laws_ends.proofs.Changes.{cells_stay, told_cells}
 use Rattle.ch_laws_ends.proofs.Places.{set_twice}
 use Rattle.ch_laws_lives.proofs.NodesTold as lives
-use Rattle.ch_laws_plain_logs.specs.Plain.{is_plain, IsPlain}
+use Rattle.ch_laws_plain_logs.specs.Plain.{IsPlain}
 use Rattle.ch_laws_plain_nodes.specs.Does.{Makes, Does}
 use Rattle.ch_laws_plain_nodes.specs.Plain.{IsPlain as IsPlainNode, IsPlainCommand}
 use Rattle.ch_laws_plain_nodes.proofs.Calls.{makes}
 use Rattle.ch_laws_plain_nodes.proofs.Commands as plain
 use Rattle.ch_laws_plain_nodes.proofs.Steps.{given_so}
-use Rattle.ch_laws_race.specs.Scene.{Party, link_of}
-use Rattle.ch_laws_calls.specs.Calls.{Claim, Both, with_host, done_at, joined_in, come_in, fed_in, IsCalled}
-use Rattle.ch_laws_calls.specs.Scenes.{IsPairOf, SceneFacts, scene_of}
+use Rattle.ch_laws_race.specs.Scene.{Party}
+use Rattle.ch_laws_calls.specs.Calls.{with_host, done_at, joined_in, come_in, fed_in, IsCalled}
+use Rattle.ch_laws_calls.specs.Scenes.{IsPairOf}
 use Rattle.ch_laws_turns.specs.Turns.{told_on, IsAsked, end_in, KeepsTurns}
-use Rattle.ch_laws_peers.specs.Says.{node_in, node_of}
-use Rattle.ch_laws_peers.specs.Reads.{gets_of, read_of, AllLeadHere, Gets, AllGet}
+use Rattle.ch_laws_peers.specs.Says.{node_in}
+use Rattle.ch_laws_peers.specs.Reads.{gets_of, read_of, Gets, AllGet}
 use Rattle.ch_laws_peers.specs.Standing.{IsOfNodes}
 use Rattle.ch_laws_got.specs.ReadingGoes.{Known, KnownWell, NoneRead, ReadingGoes}
-use Rattle.ch_laws_got.specs.SaidWell.{SaidWell}
 use Rattle.ch_laws_got.proofs.Living.{all_lead_to}
 use Rattle.ch_laws_got.proofs.Bounds.{SameGot}
 use Rattle.ch_laws_got.proofs.Hosts.{has_broke, Calm, ended_does}
 use Rattle.ch_laws_got.proofs.Told.{calm_told, none_broke, NoneGot, steps_got, got_both}
-use Rattle.ch_laws_got.proofs.Asked.{AreHome, ToldHome, Calms, told_same, calm_turn, acts_turn, command_home, plain_asked}
-use Rattle.ch_laws_got.proofs.Calls.{IsOfSocket, links_stand, links_created, host_still}
+use Rattle.ch_laws_got.proofs.Asked.{ToldHome, Calms, told_same, calm_turn, acts_turn, command_home, plain_asked}
+use Rattle.ch_laws_got.proofs.Calls.{links_stand, links_created, host_still}
 use Rattle.ch_laws_got.proofs.Turn.{one_done, item_gets}
 use Rattle.ch_laws_got.proofs.Worlds.{names_apart, read_same, still_same, cell_still}
 

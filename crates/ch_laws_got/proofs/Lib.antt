@@ -19,3 +19,7 @@ pub mod Kept
 pub mod Fresh
 pub mod Counts
 pub mod Index
+pub mod Receipts
+pub mod Gots
+pub mod GotsKept
+pub mod Wells

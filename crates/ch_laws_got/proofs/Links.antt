@@ -1,12 +1,12 @@
 -- A link that is up is that of two nodes of the journal, which are a pair.
-use Rattle.std.proofs.Common.{◌≡◌, ◌⊎◌, inl, inr, ℕ, Bool, true, List, refl, sym, ap, ◌∙◌, subst}
+use Rattle.std.proofs.Common.{◌≡◌, ◌⊎◌, inl, inr, ℕ, Bool, true, List, sym, ap, ◌∙◌, subst}
 use Rattle.std.specs.Prelude.{find, is_some, option_map, slice_get, Option, Some, None}
 use Rattle.ch_base.specs.declared.address.Address.{Address}
 use Rattle.ch_link.specs.declared.LinkState.TheVariants as states
 use Rattle.ch_model.specs.declared.entry.Entry.{Entry}
 use Rattle.ch_model.specs.declared.line.Line.{Line}
 use Rattle.ch_model.specs.declared.name.End.{End}
-use Rattle.ch_model.specs.declared.name.End.TheVariants.{O, T}
+use Rattle.ch_model.specs.declared.name.End.TheVariants.{T}
 use Rattle.ch_model.specs.declared.name.SockName.{SockName}
 use Rattle.ch_model.specs.Declarations.{has_host}
 use Rattle.ch_model.specs.HostState.{Socket}
@@ -14,19 +14,18 @@ use Rattle.ch_model.specs.HostSteps.{link_with, is_socket}
 use Rattle.ch_model.specs.Same.{is_between}
 use Rattle.ch_model.specs.World.{names_of}
 use Rattle.ch_model.specs.WorldSockets.{end_of, is_end_of, find_end}
-use Rattle.ch_model.specs.WorldState.{Cell, WorldSocket, World}
+use Rattle.ch_model.specs.WorldState.{Cell, World}
 use Rattle.ch_race.specs.Pair.{Side, Lesser, Greater, other}
 use Rattle.ch_laws_ends.proofs.Apart.{found_there}
 use Rattle.ch_laws_log.proofs.Agreeing.{At}
 use Rattle.ch_laws_log.proofs.Kept.{IsIn}
 use Rattle.ch_laws_log.proofs.Seen.{opened_is}
 use Rattle.ch_laws_log.proofs.Views.{seen_in}
-use Rattle.ch_laws_links.specs.Naming.{IsNaming, IsUpFor}
+use Rattle.ch_laws_links.specs.Naming.{IsUpFor}
 use Rattle.ch_laws_links.proofs.Says.{risen}
 use Rattle.ch_laws_race.specs.Scene.{Party}
 use Rattle.ch_laws_race.specs.Sound.{HasEnd}
 use Rattle.ch_laws_race.specs.Reading.{IsUser}
-use Rattle.ch_laws_race.specs.View.{opener_of}
 use Rattle.ch_laws_race.proofs.Readings.{other_twice}
 use Rattle.ch_laws_race.proofs.Sockets.{given}
 use Rattle.ch_laws_calls.specs.Scenes.{IsPairOf, scene_of, IsOfSide}

@@ -1,5 +1,5 @@
 -- Payloads under an id, as more of them are read.
-use Rattle.std.proofs.Common.{◌≡◌, ◌≤◌, ◌<◌, ℕ, zero, suc, Bool, true, false, cond, List, [], ◌∷◌, ◌++◌, length, take, drop, refl, sym, ap, ◌∙◌, subst, arith}
+use Rattle.std.proofs.Common.{◌≡◌, ◌≤◌, ℕ, zero, suc, Bool, true, false, cond, List, [], ◌∷◌, ◌++◌, length, take, drop, refl, sym, ap, ◌∙◌, arith}
 use Rattle.std.specs.Prelude.{filter_map, find, slice_get, option_map, Option, Some, None, ◌==◌}
 use Rattle.std.specs.List.{cons_option}
 use Rattle.std.specs.Option.{option_or}

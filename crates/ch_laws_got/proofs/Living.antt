@@ -1,8 +1,7 @@
 -- Who lives at a node: as its roll says, and who lived before as long as it is told of no end.
-use Rattle.std.proofs.Common.{◌≡◌, ◌≤◌, ◌<◌, ℕ, zero, suc, Bool, true, false, cond, not, ◌&&◌, List, [], ◌∷◌, ◌++◌, map, length, refl, sym, ap, ◌∙◌, subst, arith}
-use Rattle.std.specs.Prelude.{slice_get, Option, Some, None, ◌==◌}
+use Rattle.std.proofs.Common.{◌≡◌, ◌≤◌, ◌<◌, ℕ, zero, suc, Bool, true, false, cond, not, List, [], ◌∷◌, ◌++◌, map, length, refl, sym, ap, ◌∙◌, subst, arith}
+use Rattle.std.specs.Prelude.{slice_get, Option, Some, None}
 use Rattle.std.specs.Option.{option_map, option_map_or}
-use Rattle.std.proofs.lemmas.Bool.{and_parts}
 use Rattle.ch_base.specs.declared.address.Address.{Address}
 use Rattle.ch_ident.specs.declared.identifier.ProcessId.{ProcessId}
 use Rattle.ch_mail.specs.declared.life.Life.{Life}
@@ -12,11 +11,10 @@ use Rattle.ch_mail.specs.Process.{Process}
 use Rattle.ch_model.specs.declared.act.Act.{Act}
 use Rattle.ch_model.specs.declared.note.Note.{Note}
 use Rattle.ch_model.specs.declared.note.Note.TheVariants as notes
-use Rattle.ch_model.specs.NodeIds.{is_here, is_own, life_here, is_living}
+use Rattle.ch_model.specs.NodeIds.{is_own, life_here, is_living}
 use Rattle.ch_model.specs.NodeState.{NodeState, Bound, Unread, Void, FromNode, ToNames, ToTarget, Arrived}
 use Rattle.ch_laws_lives.specs.Rolls.{Roll, ends_of, roll_of, over_at, roll_after, roll_after_all, notes_in, LeadsTo, AllLeadTo, LivesOn}
 use Rattle.ch_laws_peers.specs.Reads.{LeadsHere, AllLeadHere}
-use Rattle.ch_laws_got.proofs.Lists.{clash}
 use Rattle.ch_laws_got.proofs.Tables.{got_within}
 use Rattle.ch_laws_got.proofs.Moves.{Lives, own_so}
 

@@ -1,5 +1,5 @@
 -- What was got of one node at another, as its node and its link there change: whatever changes them so, what holds before holds after.
-use Rattle.std.proofs.Common.{◌≡◌, ◌⊎◌, inl, inr, ◌≤◌, ◌<◌, ℕ, suc, ◌+◌, Bool, true, false, cond, ◌&&◌, List, [], ◌∷◌, ◌++◌, map, length, refl, sym, ap, ◌∙◌, subst, arith}
+use Rattle.std.proofs.Common.{◌≡◌, ◌⊎◌, inl, inr, ◌≤◌, ◌<◌, ℕ, ◌+◌, Bool, true, false, cond, ◌&&◌, List, [], ◌∷◌, ◌++◌, length, refl, sym, ap, ◌∙◌, subst, arith}
 use Rattle.std.specs.Prelude.{find, Option, Some, None, ◌==◌}
 use Rattle.std.proofs.lemmas.List.Folds.{find-append}
 use Rattle.std.specs.Option.{option_map, option_or}
@@ -22,17 +22,17 @@ use Rattle.ch_model.specs.AccountsFrames.{pair_opening}
 use Rattle.ch_model.specs.AccountsItems.{first_payload}
 use Rattle.ch_model.specs.Declarations.{process_id}
 use Rattle.ch_model.specs.Naming.{Names, process_called}
-use Rattle.ch_model.specs.NodeArrivals.{rebound, bind, arrives}
-use Rattle.ch_model.specs.NodeIds.{is_here, is_own, life_here, is_living}
-use Rattle.ch_model.specs.NodeState.{NodeState, Bound, Unread, Void, FromNode, ToNames, ToTarget, Arrived}
+use Rattle.ch_model.specs.NodeArrivals.{arrives}
+use Rattle.ch_model.specs.NodeIds.{is_own, life_here, is_living}
+use Rattle.ch_model.specs.NodeState.{NodeState, Unread, ToTarget, Arrived}
 use Rattle.ch_model.specs.WorldState.{World}
 use Rattle.ch_race.specs.Pair.{Side, other}
 use Rattle.ch_laws_race.specs.Scene.{Party, link_of}
 use Rattle.ch_laws_calls.specs.Scenes.{scene_of}
 use Rattle.ch_laws_peers.specs.Says.{node_of}
-use Rattle.ch_laws_peers.specs.Reads.{IsBoundBy, after_first, gets_of, IsOfPair, AllLeadHere, GetsRead, GetsPairs, read_of, Gets}
-use Rattle.ch_laws_got.proofs.Lists.{clash, none_some, some_is, under, first_stays, first_next, first_else, after_next, after_else, after_new}
-use Rattle.ch_laws_got.proofs.Tables.{one_id, pushed_id, last_given, id_within}
+use Rattle.ch_laws_peers.specs.Reads.{IsBoundBy, after_first, gets_of, IsOfPair, AllLeadHere, read_of, Gets}
+use Rattle.ch_laws_got.proofs.Lists.{none_some, some_is}
+use Rattle.ch_laws_got.proofs.Tables.{pushed_id, last_given}
 
 abbrev pub has_conn : ℕ → Arrived → Bool
 has_conn conn known = known.conn == conn

@@ -1,11 +1,9 @@
 -- What a plain node makes of a payload, told exactly.
-use Rattle.std.proofs.Common.{◌≡◌, ◌⊎◌, inl, inr, ℕ, Bool, true, false, cond, not, ◌&&◌, List, [], ◌∷◌, ◌++◌, map, filter, Ok, Err, refl, sym, ap, ◌∙◌, subst}
+use Rattle.std.proofs.Common.{◌≡◌, ◌⊎◌, inl, inr, ℕ, Bool, true, false, cond, not, ◌&&◌, List, [], ◌∷◌, ◌++◌, filter, Ok, Err, refl, sym, ap, ◌∙◌, subst}
 use Rattle.std.specs.Prelude.{find, slice_get, slice_set, nat_lt, Option, Some, None, Result, ◌==◌}
 use Rattle.std.specs.Option.{option_map, option_map_or}
 use Rattle.ch_base.specs.declared.address.Address.{Address}
 use Rattle.ch_base.specs.declared.event.Event.TheVariants as events
-use Rattle.ch_base.specs.declared.memory.Stop.TheVariants as stops
-use Rattle.ch_ident.specs.declared.error.IdentError.{IdentError}
 use Rattle.ch_ident.specs.declared.identifier.Identifier.TheVariants as ends
 use Rattle.ch_ident.specs.declared.identifier.ProcessId.{ProcessId}
 use Rattle.ch_ident.specs.declared.message.Message.{Message}
@@ -27,14 +25,14 @@ use Rattle.ch_model.specs.declared.act.Act.{Act}
 use Rattle.ch_model.specs.declared.act.Act.TheVariants as acts
 use Rattle.ch_model.specs.declared.note.Note.TheVariants as notes
 use Rattle.ch_model.specs.Node.{node_event}
-use Rattle.ch_model.specs.NodeArrivals.{bound_between, bound_by, rebound, bind, to_target, received_as, received_on, received, departs}
+use Rattle.ch_model.specs.NodeArrivals.{bound_between, bound_by, bind, to_target, received_as, received_on, received, departs}
 use Rattle.ch_model.specs.NodeIds.{is_here, is_own, life_here, is_living}
 use Rattle.ch_model.specs.NodeSends.{got_put, get, deliver}
-use Rattle.ch_model.specs.NodeState.{NodeState, Bound, Unread, Void, FromNode, ToNames, ToTarget, Arrived}
+use Rattle.ch_model.specs.NodeState.{NodeState, Bound, Unread, Void, ToTarget, Arrived}
 use Rattle.ch_laws_log.proofs.Stored.{number_is, number_same}
 use Rattle.ch_laws_plain_nodes.proofs.Openings.{opening_again}
-use Rattle.ch_laws_got.proofs.Lists.{clash, some_is}
-use Rattle.ch_laws_got.proofs.Moves.{has_conn, Lives, Stays}
+use Rattle.ch_laws_got.proofs.Lists.{clash}
+use Rattle.ch_laws_got.proofs.Moves.{has_conn}
 use Rattle.ch_laws_got.proofs.Bounds.{bound_then}
 
 pub ok_is : {A E : Type 0} (x y : A) → ◌≡◌ {A = Result A E} (Ok x) (Ok y) → x ≡ y

@@ -1,16 +1,14 @@
 -- The ids of a link's connections, as one more is created and as one is closed.
-use Rattle.std.proofs.Common.{◌≡◌, ◌≤◌, ◌<◌, ℕ, zero, suc, ◌+◌, ◌-◌, nat_lt, Bool, true, false, cond, ◌&&◌, ◌==◌, List, [], ◌∷◌, ◌++◌, length, Ok, Err, refl, sym, ap, ◌∙◌, subst, arith}
+use Rattle.std.proofs.Common.{◌≡◌, ◌<◌, ℕ, zero, suc, ◌+◌, nat_lt, Bool, true, false, cond, ◌==◌, List, [], ◌∷◌, ◌++◌, length, refl, sym, ap, ◌∙◌, arith}
 use Rattle.std.specs.List.{position_or_len}
-use Rattle.std.specs.Prelude.{not, position, option_map, slice_get, slice_set, Option, Some, None, Result}
+use Rattle.std.specs.Prelude.{not, position, option_map, slice_get, Option, Some, None}
 use Rattle.std.proofs.lemmas.Bool.{and_parts}
 use Rattle.std.proofs.lemmas.Bool.Decides.{nat_tests}
 use Rattle.ch_light.specs.declared.TheConstants.{FIRST_ID}
 use Rattle.ch_light.specs.declared.Connection.{Connection}
-use Rattle.ch_light.specs.declared.error.LightError.{LightError}
-use Rattle.ch_light.specs.declared.error.LightError.TheVariants as lights
-use Rattle.ch_light.specs.Ids.{opened, closed, is_open_as, place_of, id_of, open_number, conn_of, closed_by, closed_of}
+use Rattle.ch_light.specs.Ids.{opened, is_open_as, place_of, id_of}
 use Rattle.ch_laws_log.proofs.Stored.{number_is, number_same}
-use Rattle.ch_laws_got.proofs.Lists.{clash, some_is}
+use Rattle.ch_laws_got.proofs.Lists.{some_is}
 
 -- ---- where something stands
 

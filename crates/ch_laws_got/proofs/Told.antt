@@ -1,15 +1,12 @@
 -- What is told of a turn: of steps that post nothing, of one event that is posted, and how many messages of a pair are got in what is told.
-use Rattle.std.proofs.Common.{◌≡◌, ◌⊎◌, inl, inr, ℕ, suc, ◌+◌, Bool, true, false, cond, ◌&&◌, ◌||◌, List, [], ◌∷◌, ◌++◌, map, Ok, Err, refl, sym, ap, ◌∙◌, subst, arith}
-use Rattle.std.specs.Prelude.{find, count_by, Option, Some, None, Result, ◌==◌, IsTrue}
+use Rattle.std.proofs.Common.{◌≡◌, ◌⊎◌, inl, inr, ℕ, ◌+◌, Bool, true, false, cond, ◌&&◌, ◌||◌, List, [], ◌∷◌, ◌++◌, Ok, Err, refl, sym, ap, ◌∙◌, subst, arith}
+use Rattle.std.specs.Prelude.{find, Option, Some, None, Result, ◌==◌}
 use Rattle.std.specs.List.{list_all}
 use Rattle.std.proofs.lemmas.Bool.{and_parts}
 use Rattle.std.proofs.lemmas.List.Sums.{sum_by-append}
-use Rattle.ch_base.specs.declared.address.Address.{Address}
 use Rattle.ch_base.specs.declared.event.Event.{Event}
 use Rattle.ch_base.specs.declared.memory.Stop.{Stop}
-use Rattle.ch_ident.specs.declared.identifier.ProcessId.{ProcessId}
 use Rattle.ch_model.specs.declared.act.Act.{Act}
-use Rattle.ch_model.specs.declared.act.Act.TheVariants as acts
 use Rattle.ch_model.specs.declared.entry.Entry.{Entry}
 use Rattle.ch_model.specs.declared.entry.Entry.TheVariants as entries
 use Rattle.ch_model.specs.declared.local.LocalEntry.{LocalEntry}
@@ -30,13 +27,12 @@ use Rattle.ch_model.specs.NodeState.{NodeState}
 use Rattle.ch_model.specs.Same.{same_process, same_target}
 use Rattle.ch_model.specs.WorldSockets.{find_end, with_end_of, other, item_arrives}
 use Rattle.ch_model.specs.WorldState.{Cell, World}
-use Rattle.ch_model.specs.WorldSteps.{or_first, note_entry, noted, on_end, reads_item, end_closes, stepped, local_told, after_told, all_told}
+use Rattle.ch_model.specs.WorldSteps.{or_first, noted, reads_item, end_closes, stepped, local_told, all_told}
 use Rattle.ch_laws_bytes.proofs.Told.{told_names}
 use Rattle.ch_laws_plain_logs.specs.Plain.{is_plain}
 use Rattle.ch_laws_plain.specs.ReadsReading.{posts_in}
 use Rattle.ch_laws_peers.specs.Reads.{gets_of}
 use Rattle.ch_laws_got.proofs.Hosts.{is_broke, has_broke}
-use Rattle.ch_laws_got.proofs.Lists.{clash, some_is}
 
 -- ---- steps
 

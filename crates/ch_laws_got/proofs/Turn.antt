@@ -1,20 +1,17 @@
 -- The turn in which a host reads an item: for each two nodes, which of them reads, and what was got then.
-use Rattle.std.proofs.Common.{◌≡◌, ◌⊎◌, inl, inr, ◌≤◌, ◌<◌, ℕ, zero, suc, ◌+◌, Bool, true, false, cond, ◌&&◌, List, [], ◌∷◌, ◌++◌, map, length, take, Ok, Err, refl, sym, ap, ◌∙◌, subst, arith}
-use Rattle.std.specs.Prelude.{find, slice_get, slice_set, Option, Some, None, Result, ◌==◌, IsTrue}
+use Rattle.std.proofs.Common.{◌≡◌, ◌⊎◌, inl, inr, ◌≤◌, ◌<◌, ℕ, zero, suc, ◌+◌, Bool, true, false, cond, ◌&&◌, List, [], ◌∷◌, ◌++◌, length, take, Ok, refl, sym, ap, ◌∙◌, subst, arith}
+use Rattle.std.specs.Prelude.{find, slice_get, slice_set, Option, Some, None, ◌==◌}
 use Rattle.std.specs.List.{list_all}
 use Rattle.std.specs.Str.{bytes_eq}
 use Rattle.std.proofs.lemmas.Bool.{and_parts}
 use Rattle.std.proofs.lemmas.Slice.Eq.{bytes_eq-Decides}
 use Rattle.ch_base.specs.declared.address.Address.{Address}
 use Rattle.ch_base.specs.declared.event.Event.{Event}
-use Rattle.ch_base.specs.declared.event.Event.TheVariants as events
 use Rattle.ch_ident.specs.declared.identifier.ProcessId.{ProcessId}
 use Rattle.ch_light.specs.declared.Connection.{Connection}
 use Rattle.ch_light.specs.declared.TheConstants.{FIRST_ID}
-use Rattle.ch_light.specs.Ids.{opened, created_of, closed_of, conn_of}
-use Rattle.ch_link.specs.declared.LinkState.{LinkState}
+use Rattle.ch_light.specs.Ids.{opened, conn_of}
 use Rattle.ch_link.specs.declared.LinkState.TheVariants as states
-use Rattle.ch_reader.specs.declared.item.Front.{Front}
 use Rattle.ch_reader.specs.declared.item.Front.TheVariants.{Whole}
 use Rattle.ch_reader.specs.declared.item.Item.TheVariants as items
 use Rattle.ch_static.specs.declared.target.Target.TheVariants as targets
@@ -46,7 +43,7 @@ use Rattle.ch_model.specs.Host.{front_of, first_ready, host_next}
 use Rattle.ch_model.specs.HostItems.{next_arrival}
 use Rattle.ch_model.specs.HostState.{Link, Socket, HostState}
 use Rattle.ch_model.specs.HostSteps.{link_with, is_socket}
-use Rattle.ch_model.specs.Naming.{Names, called, process_called, target_called}
+use Rattle.ch_model.specs.Naming.{Names, process_called}
 use Rattle.ch_model.specs.Node.{node_event}
 use Rattle.ch_model.specs.NodeState.{NodeState}
 use Rattle.ch_model.specs.Same.{same_process, same_target}
@@ -68,7 +65,6 @@ use Rattle.ch_laws_lives.proofs.NodesTold.{node_lives, on_event}
 use Rattle.ch_laws_log.proofs.Homes.{node_self}
 use Rattle.ch_laws_log.proofs.Keys.{node_is}
 use Rattle.ch_laws_log.proofs.Stored.{number_is, number_same}
-use Rattle.ch_laws_plain.specs.Plain.{NodeIsPlain, CellIsPlain}
 use Rattle.ch_laws_plain_logs.specs.Plain.{is_plain, IsPlain}
 use Rattle.ch_laws_plain_logs.proofs.Absent.{first_epoch}
 use Rattle.ch_laws_race.proofs.Readings.{other_twice}
@@ -79,23 +75,22 @@ use Rattle.ch_laws_turns.specs.Turns.{told_on}
 use Rattle.ch_laws_writes.proofs.Ordered.{is_key}
 use Rattle.ch_laws_peers.specs.Words.{words_in, datas_in}
 use Rattle.ch_laws_peers.specs.Says.{towards, node_in, node_of}
-use Rattle.ch_laws_peers.specs.Reads.{reads, item_read, ReadsOne, ReadsNone, after_first, gets_of, read_of, AllLeadHere, Gets, AllGet}
-use Rattle.ch_laws_peers.specs.Standing.{IsOfNodes, Standing}
+use Rattle.ch_laws_peers.specs.Reads.{reads, item_read, ReadsOne, ReadsNone, after_first, gets_of, read_of, Gets, AllGet}
+use Rattle.ch_laws_peers.specs.Standing.{IsOfNodes}
 use Rattle.ch_laws_got.specs.ReadingGoes.{Known, Grown, OneRead}
 use Rattle.ch_laws_got.specs.SaidWell.{SaidWell}
-use Rattle.ch_laws_got.proofs.Lists.{clash, none_some, some_is, first_stays, first_next, first_else, after_next, after_else, under}
-use Rattle.ch_laws_got.proofs.Moves.{has_conn, GetsAt, at_party, of_party, Stays}
+use Rattle.ch_laws_got.proofs.Lists.{clash, some_is, first_else, after_next, after_else}
+use Rattle.ch_laws_got.proofs.Moves.{GetsAt, at_party, of_party}
 use Rattle.ch_laws_got.proofs.Living.{all_lead_to, all_lead_here}
 use Rattle.ch_laws_got.proofs.Bounds.{AreAlone, SameGot, gets_nobody}
 use Rattle.ch_laws_got.proofs.Arrivals.{conn_within, created_is, closed_is}
-use Rattle.ch_laws_got.proofs.Hosts.{has_broke, DoesAs, Brought, Calm, NextDoes, next_does}
-use Rattle.ch_laws_got.proofs.Told.{NoGots, steps_tell, calm_told, brought_told, HeardBy, heard_by, none_broke, is_got, NoneGot, steps_got, got_both, step_none}
+use Rattle.ch_laws_got.proofs.Hosts.{DoesAs, Brought, Calm, NextDoes, next_does}
+use Rattle.ch_laws_got.proofs.Told.{NoGots, steps_tell, calm_told, brought_told, HeardBy, heard_by, none_broke, NoneGot, steps_got, got_both, step_none}
 use Rattle.ch_laws_got.proofs.Hearing.{GotOne, tells_got, GotSo, EventDone, created_done, closed_done, data_done}
 use Rattle.ch_laws_got.proofs.Asked.{told_same}
 use Rattle.ch_laws_got.proofs.Nodes.{ok_is}
 use Rattle.ch_laws_got.proofs.Links.{IsLinkOf, link_pair}
-use Rattle.ch_laws_got.proofs.Items.{SaysNext, SaysOf, WordNext, word_next, read_last, got_entry}
-use Rattle.ch_laws_got.proofs.Words.{IsSaying}
+use Rattle.ch_laws_got.proofs.Items.{SaysNext, SaysOf, word_next, read_last, got_entry}
 use Rattle.ch_laws_got.proofs.Worlds.{alone_read, read_same, read_more, read_no_data, node_at, created_at, cell_still, node_turn}
 
 -- the endpoint and the peer of a link are these two nodes

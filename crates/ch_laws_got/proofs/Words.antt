@@ -1,7 +1,7 @@
 -- What is read next, by what was said: the opening of a pair's connection, or the message of a saying, of two processes as they are called.
-use Rattle.std.proofs.Common.{◌≡◌, ◌⊎◌, inl, inr, ℕ, zero, suc, Bool, true, false, cond, ◌&&◌, ◌||◌, List, [], ◌∷◌, ◌++◌, map, refl, sym, ap, ◌∙◌, subst}
-use Rattle.std.specs.Prelude.{filter_map, find, slice_get, option_map, Option, Some, None, ◌==◌}
-use Rattle.std.specs.List.{cons_option, list_any}
+use Rattle.std.proofs.Common.{◌≡◌, ℕ, zero, suc, Bool, true, false, cond, ◌&&◌, ◌||◌, List, [], ◌∷◌, ◌++◌, refl, sym, ap, ◌∙◌, subst}
+use Rattle.std.specs.Prelude.{filter_map, find, slice_get, option_map, Option, Some, None}
+use Rattle.std.specs.List.{cons_option}
 use Rattle.std.specs.Str.{bytes_eq}
 use Rattle.std.proofs.lemmas.Bool.{and_parts}
 use Rattle.std.proofs.lemmas.Slice.Eq.{bytes_eq-Decides}
@@ -21,7 +21,7 @@ use Rattle.ch_model.specs.declared.name.TargetName.TheVariants as names
 use Rattle.ch_model.specs.AccountsFrames.{Saying, pair_opening}
 use Rattle.ch_model.specs.AccountsItems.{first_payload}
 use Rattle.ch_model.specs.Declarations.{Peer, declared_by, peer, process_id}
-use Rattle.ch_model.specs.Logs.{or_else, first_of, some_and}
+use Rattle.ch_model.specs.Logs.{or_else, some_and}
 use Rattle.ch_model.specs.Naming.{Names, is_named, called, process_called}
 use Rattle.ch_model.specs.Same.{node_of}
 use Rattle.ch_model.specs.World.{name_in, names_of}
@@ -30,10 +30,10 @@ use Rattle.ch_race.specs.Pair.{Side, other}
 use Rattle.ch_laws_race.specs.Scene.{Party}
 use Rattle.ch_laws_calls.specs.Scenes.{IsPairOf}
 use Rattle.ch_laws_plain_logs.specs.Plain.{said_by}
-use Rattle.ch_laws_peers.specs.Words.{Word, datas_in, carried_after, sayings, opens_one, Carries, TrueWord, TrueWords}
+use Rattle.ch_laws_peers.specs.Words.{Word, datas_in, carried_after, sayings, opens_one, TrueWord, TrueWords}
 use Rattle.ch_laws_peers.specs.Reads.{IsOfPair}
-use Rattle.ch_laws_got.specs.SaidWell.{IsSpelled, IsSaidWell, SaidWell}
-use Rattle.ch_laws_got.proofs.Lists.{clash, some_is}
+use Rattle.ch_laws_got.specs.SaidWell.{IsSaidWell, SaidWell}
+use Rattle.ch_laws_got.proofs.Lists.{some_is}
 use Rattle.ch_laws_got.proofs.Moves.{pair_opens}
 
 -- ---- true words, one of them

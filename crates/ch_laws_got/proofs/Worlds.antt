@@ -1,7 +1,6 @@
 -- Two nodes in a world whose cell at one place is another: what was got, where nothing of it is read, and what is read, where something is.
-use Rattle.std.proofs.Common.{◌≡◌, ◌⊎◌, inl, inr, ◌≤◌, ◌<◌, ℕ, zero, suc, ◌+◌, Bool, true, false, cond, List, [], ◌∷◌, ◌++◌, map, length, take, refl, sym, ap, ◌∙◌, subst, arith}
-use Rattle.std.specs.Prelude.{filter_map, find, slice_get, slice_set, Option, Some, None, ◌==◌}
-use Rattle.std.specs.Str.{bytes_eq}
+use Rattle.std.proofs.Common.{◌≡◌, ◌⊎◌, inl, inr, ◌≤◌, ℕ, zero, suc, Bool, true, false, List, [], ◌∷◌, ◌++◌, length, take, refl, sym, ap, ◌∙◌, subst, arith}
+use Rattle.std.specs.Prelude.{find, slice_get, slice_set, Option, Some, None, ◌==◌}
 use Rattle.std.proofs.lemmas.List.{map-append}
 use Rattle.std.proofs.lemmas.List.Elements.{filter_map-append}
 use Rattle.std.proofs.lemmas.Slice.Eq.{bytes_eq-Decides}
@@ -17,20 +16,20 @@ use Rattle.ch_model.specs.AccountsItems.{data_of, first_payload}
 use Rattle.ch_model.specs.CellSteps.{is_at, store_node}
 use Rattle.ch_model.specs.HostSteps.{link_with}
 use Rattle.ch_model.specs.Naming.{Names}
-use Rattle.ch_model.specs.NodeState.{NodeState, Arrived}
+use Rattle.ch_model.specs.NodeState.{NodeState}
 use Rattle.ch_model.specs.WorldState.{Cell, World}
 use Rattle.ch_race.specs.Pair.{Side, Lesser, Greater, other}
 use Rattle.ch_laws_connections.proofs.Cells.{stored_there, stored_other}
 use Rattle.ch_laws_ends.proofs.Places.{got_same, got_other}
 use Rattle.ch_laws_log.proofs.Stored.{number_is, number_same}
 use Rattle.ch_laws_race.specs.Scene.{Party, host_in, link_of}
-use Rattle.ch_laws_calls.specs.Scenes.{IsPairOf, SceneFacts, scene_of}
+use Rattle.ch_laws_calls.specs.Scenes.{SceneFacts, scene_of}
 use Rattle.ch_laws_peers.specs.Words.{Placed, word_of, words_in, datas_in, waiting_as}
 use Rattle.ch_laws_peers.specs.Says.{towards, all_towards, node_in, node_of, Says}
 use Rattle.ch_laws_peers.specs.Reads.{reads, Comes, AllLeadHere, read_of, Gets}
 use Rattle.ch_laws_got.specs.ReadingGoes.{Grown}
-use Rattle.ch_laws_got.proofs.Lists.{clash, none_some, some_is, first_stays, take_next, take_more, split_at, within}
-use Rattle.ch_laws_got.proofs.Moves.{has_conn, GetsAt, at_party, of_party, Lives, Stays, gets_stay}
+use Rattle.ch_laws_got.proofs.Lists.{clash, some_is, first_stays, take_next, take_more, split_at, within}
+use Rattle.ch_laws_got.proofs.Moves.{GetsAt, at_party, of_party, Stays, gets_stay}
 use Rattle.ch_laws_got.proofs.Bounds.{AreAlone, SameGot}
 
 -- ---- names

@@ -31,7 +31,7 @@ use Rattle.ch_laws_calls.specs.Scenes.{IsPairOf}
 use Rattle.ch_laws_turns.specs.Turns.{told_on, IsAsked, end_in}
 use Rattle.ch_laws_peers.specs.Words.{Placed}
 use Rattle.ch_laws_peers.specs.Says.{towards, AllSay}
-use Rattle.ch_laws_peers.specs.Reads.{reads, ReadsOne, ReadsNone, AllCome}
+use Rattle.ch_laws_peers.specs.Reads.{reads, ReadsOne, ReadsNone, AllCome, AllGet}
 use Rattle.ch_laws_peers.specs.Standing.{Standing}
 use Rattle.ch_laws_got.specs.SaidWell.{SaidWell}
 
@@ -79,3 +79,7 @@ pub record ReadingGoes (journal : List Line) : Type 0 where
 -- what is known, and that messages are said well
 abbrev pub KnownWell : List Line → Claim
 KnownWell journal = Both (Known journal) (λ log world. SaidWell journal log)
+
+-- and what was got
+abbrev pub KnownGot : List Line → Claim
+KnownGot journal = Both (KnownWell journal) (AllGet journal)

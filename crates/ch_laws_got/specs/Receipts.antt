@@ -1,18 +1,15 @@
 -- What is so of each message that a process gets, by the log before it.
-use Rattle.std.specs.Prelude.{◌≡◌, ℕ, ◌==◌, Bool, true, false, not, ◌||◌, List, [], ◌∷◌, ◌++◌, count_by, Option, Some, None}
+use Rattle.std.specs.Prelude.{◌≡◌, ℕ, ◌==◌, Bool, true, false, not, ◌||◌, List, [], ◌∷◌, ◌++◌, count_by, Some}
 use Rattle.std.specs.List.{list_any}
 use Rattle.std.specs.Str.{bytes_eq}
 use Rattle.ch_model.specs.declared.entry.Entry.{Entry}
 use Rattle.ch_model.specs.declared.entry.Entry.TheVariants as entries
-use Rattle.ch_model.specs.declared.line.Line.{Line}
 use Rattle.ch_model.specs.declared.name.ProcName.{ProcName}
-use Rattle.ch_model.specs.declared.name.TargetName.{TargetName}
 use Rattle.ch_model.specs.declared.name.TargetName.TheVariants as names
 use Rattle.ch_model.specs.Delivery.{gets_in}
 use Rattle.ch_model.specs.Epochs.{says_in, says_it}
 use Rattle.ch_model.specs.Logs.{from_first, last_is}
 use Rattle.ch_model.specs.Same.{node_of}
-use Rattle.ch_model.specs.WorldState.{World}
 use Rattle.ch_laws_calls.specs.Calls.{Claim}
 
 -- A process gets what it was sent: that was said before, in the first epoch; directly before, where both are of one node; and where they

@@ -9,7 +9,6 @@ use Rattle.ch_model.specs.declared.line.Line.{Line}
 use Rattle.ch_model.specs.declared.name.ProcName.{ProcName}
 use Rattle.ch_model.specs.declared.name.TargetName.{TargetName}
 use Rattle.ch_model.specs.declared.name.TargetName.TheVariants as names
-use Rattle.ch_model.specs.AccountsFrames.{Saying}
 use Rattle.ch_model.specs.Declarations.{process_id}
 use Rattle.ch_model.specs.Epochs.{FollowsEpochs}
 

@@ -1,19 +1,26 @@
 //! The laws of what is got: what has arrived at a node from another is bound by what it has read, and what it has read for a
 //! process that lives, that has got.
 //!
-//! What a node has said and written to another, and how far the other has read it, is given here (ch_laws_words). So is how
+//! What a node has said and written to another, and how far the other has read it, is given here (ch_laws_peers). So is how
 //! reading goes on in each turn, and that messages are numbered as they come and can be spelled.
 //!
 //! No code: definitions, and laws as clauses of empty functions, over the model below.
 #![tactic(auto)]
 
-ghost use Rattle.std.specs.Prelude.{List, []};
+ghost use Rattle.std.specs.Prelude.{◌≡◌, true, List, [], ◌++◌};
+ghost use Rattle.ch_model.specs.declared.entry.Entry.{Entry};
 ghost use Rattle.ch_model.specs.declared.line.Line.{Line};
+ghost use Rattle.ch_model.specs.Delivery.{gets_the_said, gets_no_earlier, gets_by_receiver, gets_at_once};
+ghost use Rattle.ch_model.specs.Logs.{each};
 ghost use Rattle.ch_model.specs.World.{world_new};
+ghost use Rattle.ch_laws_lives.specs.Logs.{AreAllowed};
+ghost use Rattle.ch_laws_plain_logs.specs.Plain.{IsPlain};
 ghost use Rattle.ch_laws_turns.specs.Turns.{KeepsTurns};
 ghost use Rattle.ch_laws_peers.specs.Reads.{AllGet};
 ghost use Rattle.ch_laws_peers.specs.Standing.{IsOfNodes};
-ghost use Rattle.ch_laws_got.specs.ReadingGoes.{KnownWell, ReadingGoes};
+ghost use Rattle.ch_laws_got.specs.ReadingGoes.{KnownWell, KnownGot, ReadingGoes};
+ghost use Rattle.ch_laws_got.specs.Receipts.{AreGotWell, AllGotWell, gets_the_next_between};
+ghost use Rattle.ch_laws_got.specs.SaidWell.{SaidWell};
 
 /// Of each two nodes of a journal, both ways, and whatever happens: each connection that has arrived from the one at the
 /// other, and that is open there under an id, is unread as long as nothing was read under that id; after the first payload it
@@ -24,4 +31,23 @@ ghost use Rattle.ch_laws_got.specs.ReadingGoes.{KnownWell, ReadingGoes};
 pub fn what_is_read_is_got()
     ensures fresh { (journal : List Line) → AllGet journal [] (world_new journal) }
     ensures kept { (journal : List Line) → IsOfNodes journal → ReadingGoes journal → KeepsTurns journal (KnownWell journal) (KnownWell journal) (AllGet journal) }
+{}
+
+/// Each message that is got is got as it should be, and each turn keeps that: a process gets what it was sent; that was said
+/// before, in its pair's first epoch; directly before, where both are of one node; and where they are of two, as many messages
+/// of the pair were got before as its index says. What is given of the messages of a log is given of each log before it.
+pub fn receipts_are_kept()
+    ensures kept { (journal : List Line) → IsOfNodes journal → ReadingGoes journal → KeepsTurns journal (KnownGot journal) (KnownGot journal) AllGotWell }
+    ensures before { (journal : List Line) (one two : List Entry) → SaidWell journal (one ++ two) → SaidWell journal one }
+{}
+
+/// So in a log of plain entries a message is got only after it was said; between two nodes it is the next of its pair, after as
+/// many as its index; none of an earlier epoch is got after one of a later; within a node it is got directly after it was said;
+/// and where the log permits what processes do, by its receiver alone, which was made and isn't over.
+pub fn receipts_are_lawful()
+    ensures said { (log : List Entry) → IsPlain log → AreGotWell [] log → each gets_the_said log ≡ true }
+    ensures next { (log : List Entry) → IsPlain log → AreGotWell [] log → each gets_the_next_between log ≡ true }
+    ensures order { (journal : List Line) (log : List Entry) → IsPlain log → SaidWell journal log → AreGotWell [] log → each gets_no_earlier log ≡ true }
+    ensures receiver { (log : List Entry) → IsPlain log → AreAllowed [] log → AreGotWell [] log → each gets_by_receiver log ≡ true }
+    ensures at_once { (log : List Entry) → IsPlain log → AreGotWell [] log → each gets_at_once log ≡ true }
 {}

@@ -42,10 +42,10 @@ steps_append [] ys = refl
 steps_append (local.Step step ∷ xs) ys = ap (λ (l : List Step). step ∷ l) (steps_append xs ys)
 steps_append (local.Note note ∷ xs) ys = steps_append xs ys
 
-abbrev Done : Type 0
+abbrev pub Done : Type 0
 Done = List LocalEntry × Cell
 
-pair_is : {x y : Done} → ◌≡◌ {A = Followed} (Ok x) (Ok y) → x ≡ y
+pub pair_is : {x y : Done} → ◌≡◌ {A = Followed} (Ok x) (Ok y) → x ≡ y
 pair_is e = cc
 
 -- a note is told first
@@ -102,10 +102,10 @@ short_done payload (Err errors.QueueFull) l d = absurd d
 short_done payload (Err errors.Spent) l d = absurd d
 
 -- what is so after that
-taken_after : (r : Result (List Step × HostState) EndError) (c : Cell) (done : List Step × HostState) (P : Cell → Type 0) → r ≡ Ok done → AfterThat (asked c r) P → P (record c { host = done.1 })
+pub taken_after : (r : Result (List Step × HostState) EndError) (c : Cell) (done : List Step × HostState) (P : Cell → Type 0) → r ≡ Ok done → AfterThat (asked c r) P → P (record c { host = done.1 })
 taken_after r c done P is a = subst (λ (r : Result (List Step × HostState) EndError). AfterThat (asked c r) P) is a
 
-fits_after : (r : Result (List Step × HostState) EndError) (end : ℕ) (c : Cell) (rest : List Act) (s : Sender) (done : List Step × HostState) → r ≡ Ok done → After end c false rest s (asked c r) → Moves end c.host done.1 × FitsAs false done.1 end rest s
+pub fits_after : (r : Result (List Step × HostState) EndError) (end : ℕ) (c : Cell) (rest : List Act) (s : Sender) (done : List Step × HostState) → r ≡ Ok done → After end c false rest s (asked c r) → Moves end c.host done.1 × FitsAs false done.1 end rest s
 fits_after r end c rest s done is a = let k = subst (λ (r : Result (List Step × HostState) EndError). After end c false rest s (asked c r)) is a in (k.1, k.2)
 
 -- ---- a message goes on a connection that is open
@@ -144,7 +144,7 @@ pub record FirstActs (own : ℕ → Address) (c : Cell) (end conn : ℕ) (peer :
   pub told_is : told ≡ local.Note note ∷ told_steps steps
   pub nodes : after.nodes ≡ c.nodes
 
-told_append : (xs ys : List Step) → told_steps (xs ++ ys) ≡ told_steps xs ++ told_steps ys
+pub told_append : (xs ys : List Step) → told_steps (xs ++ ys) ≡ told_steps xs ++ told_steps ys
 told_append [] ys = refl
 told_append (x ∷ xs) ys = ap (λ (l : List LocalEntry). local.Step x ∷ l) (told_append xs ys)
 

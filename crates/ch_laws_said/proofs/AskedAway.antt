@@ -70,7 +70,7 @@ unfolding is_pair is_key_of
 keyed by to pair = refl
 
 -- a pair that is found where one was stored has its target, or was found before
-stored_pair : (by : ℕ) (to : ProcessId) (pair : Pair) (pairs : List Pair) (k : Pair) → pair.by ≡ by → pair.to ≡ targets.Process to → find (is_pair k.by k.to) (with_pair pair pairs) ≡ Some k → (k.to ≡ targets.Process to) ⊎ (find (is_pair k.by k.to) pairs ≡ Some k)
+pub stored_pair : (by : ℕ) (to : ProcessId) (pair : Pair) (pairs : List Pair) (k : Pair) → pair.by ≡ by → pair.to ≡ targets.Process to → find (is_pair k.by k.to) (with_pair pair pairs) ≡ Some k → (k.to ≡ targets.Process to) ⊎ (find (is_pair k.by k.to) pairs ≡ Some k)
 stored_pair by to pair [] k e f h = by_test (is_pair k.by k.to pair) h where
   by_test : (b : Bool) → cond b (Some pair) None ≡ Some k → (k.to ≡ targets.Process to) ⊎ (find (is_pair k.by k.to) [] ≡ Some k)
   by_test true h = let same : pair ≡ k = cc in inl (sym (ap (λ (p : Pair). p.to) same) ∙ f)

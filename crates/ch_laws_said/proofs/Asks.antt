@@ -1,12 +1,11 @@
 -- What the lines of a journal of many nodes ask, and what is known of the process that asks.
-use Rattle.std.proofs.Common.{◌≡◌, ◌≤◌, ◌<◌, ℕ, zero, suc, ◌+◌, Bool, true, false, cond, ◌&&◌, List, [], ◌∷◌, ◌++◌, length, Ok, Err, refl, sym, ap, ◌∙◌, subst, arith}
+use Rattle.std.proofs.Common.{◌≡◌, ◌≤◌, ◌<◌, ℕ, zero, suc, ◌+◌, Bool, true, false, cond, ◌&&◌, List, [], ◌∷◌, ◌++◌, length, Ok, Err, refl, ap, ◌∙◌, subst, arith}
 use Rattle.std.proofs.lemmas.Bool.{and_parts}
 use Rattle.std.proofs.lemmas.Bool.Decides.{nat_tests}
 use Rattle.std.proofs.lemmas.List.{length-append}
 use Rattle.std.specs.Option.{option_map, option_map_or}
 use Rattle.std.specs.Prelude.{Result, find, nat_le, not, slice_get, Option, Some, None, ◌==◌}
 use Rattle.ch_base.specs.Addresses.{IsAddress, address_text}
-use Rattle.ch_base.specs.declared.address.Address.{Address}
 use Rattle.ch_base.specs.declared.event.Room.{Room}
 use Rattle.ch_ident.specs.declared.identifier.Identifier.TheVariants as identifiers
 use Rattle.ch_ident.specs.declared.identifier.ProcessId.{ProcessId}
@@ -20,7 +19,6 @@ use Rattle.ch_mail.specs.Lives.{is_over}
 use Rattle.ch_mail.specs.Mail.{life_of}
 use Rattle.ch_static.specs.declared.command.Command.{Command}
 use Rattle.ch_static.specs.declared.command.Command.TheVariants as commands
-use Rattle.ch_static.specs.declared.target.Target.{Target}
 use Rattle.ch_static.specs.declared.target.Target.TheVariants as targets
 use Rattle.ch_wire.specs.declared.TheConstants.{MOST_PAYLOAD_BYTES}
 use Rattle.ch_model.specs.declared.act.Act.{Act}
@@ -36,7 +34,7 @@ use Rattle.ch_model.specs.CellSteps.{is_at, with_node}
 use Rattle.ch_model.specs.Naming.{Names, process_as}
 use Rattle.ch_model.specs.Node.{node_command, target_node}
 use Rattle.ch_model.specs.NodeActs.{◌>>=◌, stopping}
-use Rattle.ch_model.specs.NodeCommands.{send_of, finish_of}
+use Rattle.ch_model.specs.NodeCommands.{send_of}
 use Rattle.ch_model.specs.NodeIds.{process_id, is_own, life_here, is_living}
 use Rattle.ch_model.specs.NodePairs.{pair_of}
 use Rattle.ch_model.specs.NodeRoom.{acting_as, acting, fitting, known, room_to_send}
@@ -45,7 +43,7 @@ use Rattle.ch_model.specs.NodeState.{NodeState}
 use Rattle.ch_model.specs.WorldLines.{command_as}
 use Rattle.ch_model.specs.WorldState.{Cell}
 use Rattle.ch_laws_connections.specs.Fits.{FitsAs, CellHolds}
-use Rattle.ch_laws_connections.specs.Senders.{Sender, sender_of, Own}
+use Rattle.ch_laws_connections.specs.Senders.{sender_of, Own}
 use Rattle.ch_laws_connections.specs.Taken.{ActsTaken, CallTaken, AtNode}
 use Rattle.ch_laws_connections.proofs.Cells.{node_fits}
 use Rattle.ch_laws_connections.proofs.CellSteps.{room_fits}
@@ -89,7 +87,7 @@ pub record Acts (node : NodeState) (by : ℕ) : Type 0 where
   pub made : by < length node.mail
   pub lives : is_living node (process_id node by) ≡ true
 
-acts_so : (node : NodeState) (by : ℕ) → acting node by ≡ Ok tt → Acts node by
+pub acts_so : (node : NodeState) (by : ℕ) → acting node by ≡ Ok tt → Acts node by
 unfolding acting life_of is_living life_here is_own
 acts_so node by e = by_process (slice_get node.mail by) refl e where
   within : (all : List Process) (n : ℕ) (p : Process) → slice_get all n ≡ Some p → n < length all
@@ -114,7 +112,7 @@ acts_so node by e = by_process (slice_get node.mail by) refl e where
     by_life (lives.Over reason) is e = absurd cc
 
 -- what was bound went well
-went : {A : Type 0} (r : Result A CommandError) (f : A → Result (List Act × NodeState) CommandError) (one : List Act × NodeState) → (r >>= f) ≡ Ok one → (x : A) × (r ≡ Ok x) × (f x ≡ Ok one)
+pub went : {A : Type 0} (r : Result A CommandError) (f : A → Result (List Act × NodeState) CommandError) (one : List Act × NodeState) → (r >>= f) ≡ Ok one → (x : A) × (r ≡ Ok x) × (f x ≡ Ok one)
 went (Ok x) f one e = (x, refl, e)
 went (Err k) f one e = absurd cc
 

@@ -88,7 +88,7 @@ fed_quiet host sock bytes = by_socket (find (is_socket sock) host.sockets) where
   by_socket (Some socket) = by_test socket (is_open socket.stage)
 
 -- a cell whose host has the same links, and the same nodes
-cells_rest : (cells : List (Cell × ℕ)) (place : ℕ) (cell : Cell × ℕ) (host : HostState) (count p : ℕ) → slice_get cells place ≡ Some cell → host.links ≡ cell.0.host.links
+pub cells_rest : (cells : List (Cell × ℕ)) (place : ℕ) (cell : Cell × ℕ) (host : HostState) (count p : ℕ) → slice_get cells place ≡ Some cell → host.links ≡ cell.0.host.links
     → ((end : ℕ) (peer : Address) → link_with (host_in (slice_get (slice_set cells place (with_host cell host, count)) p)) end peer ≡ link_with (host_in (slice_get cells p)) end peer) × ((end : ℕ) → node_in (slice_get (slice_set cells place (with_host cell host, count)) p) end ≡ node_in (slice_get cells p) end)
 cells_rest cells place cell host count p at same = (λ end peer. ap (λ (o : Option (Cell × ℕ)). link_with (host_in o) end peer) (set_at cells place cell (with_host cell host, count) p at) ∙ by_link end peer (place == p) refl, λ end. ap (λ (o : Option (Cell × ℕ)). node_in o end) (set_at cells place cell (with_host cell host, count) p at) ∙ by_node end (place == p) refl) where
   here : (place == p) ≡ true → slice_get cells p ≡ Some cell

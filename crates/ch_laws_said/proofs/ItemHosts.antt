@@ -1,5 +1,5 @@
 -- What a link makes of what it hears as an item is read, where it doesn't fail: no payload is put, or what waited is written as it comes up.
-use Rattle.std.proofs.Common.{◌≡◌, ◌⊎◌, inl, inr, ℕ, Bool, true, false, cond, List, [], ◌∷◌, ◌++◌, map, Ok, Err, refl, sym, ap, ◌∙◌, subst}
+use Rattle.std.proofs.Common.{◌≡◌, ◌⊎◌, inl, inr, ℕ, Bool, true, false, cond, List, [], ◌∷◌, ◌++◌, map, refl, sym, ap, ◌∙◌, subst}
 use Rattle.std.proofs.lemmas.List.{append-nil}
 use Rattle.std.specs.Prelude.{Option, Some, None, ◌==◌}
 use Rattle.ch_wire.specs.Spelling.{answer_spelling, frame_spelling}
@@ -30,11 +30,11 @@ use Rattle.ch_laws_links.proofs.Keys.{ended_rest}
 use Rattle.ch_laws_writes.specs.Dues.{Due, Answering, Framing}
 use Rattle.ch_laws_writes.specs.Orderly.{AreFrames}
 use Rattle.ch_laws_writes.proofs.Worlds.{number_is, number_same}
-use Rattle.ch_laws_peers.specs.Words.{Placed, words_in, waiting_as}
+use Rattle.ch_laws_peers.specs.Words.{words_in, waiting_as}
 use Rattle.ch_laws_peers.specs.Says.{ArePlaced}
 use Rattle.ch_laws_said.specs.Goes.{bare}
 use Rattle.ch_laws_said.specs.Puts.{spelled}
-use Rattle.ch_laws_said.specs.Heeds.{AreCalm, IsFirst, Rises, IsAnswer, FromDown, FromUp, Tells, AllTell}
+use Rattle.ch_laws_said.specs.Heeds.{IsFirst, IsAnswer, Tells, AllTell}
 
 clash : {A : Type 0} → false ≡ true → A
 clash e = absurd cc

@@ -1,8 +1,8 @@
 -- What a host makes of its links as it reads an item, where none fails: no payload is put, and what waits is written where one comes up.
-use Rattle.std.proofs.Common.{◌≡◌, ◌⊎◌, inl, inr, ℕ, ◌+◌, Bool, true, false, cond, List, [], ◌∷◌, ◌++◌, drop, Ok, Err, refl, sym, ap, ◌∙◌, subst}
+use Rattle.std.proofs.Common.{◌≡◌, ◌⊎◌, inl, inr, ℕ, ◌+◌, Bool, true, false, cond, List, [], ◌∷◌, drop, Ok, Err, refl, sym, ap, ◌∙◌, subst}
 use Rattle.std.proofs.lemmas.Bool.{and_parts}
 use Rattle.std.proofs.lemmas.List.{append-nil}
-use Rattle.std.specs.Prelude.{find, Option, Some, None, Result, nat_lt, ◌==◌}
+use Rattle.std.specs.Prelude.{find, Option, Some, None, Result, nat_lt}
 use Rattle.ch_base.specs.declared.address.Address.{Address}
 use Rattle.ch_base.specs.declared.event.Event.{Event}
 use Rattle.ch_base.specs.declared.event.Event.TheVariants as events
@@ -24,7 +24,6 @@ use Rattle.ch_light.specs.declared.error.LightError.{LightError}
 use Rattle.ch_light.specs.Ids.{created_of, conn_of, closed_of}
 use Rattle.ch_link.specs.Sockets.{names}
 use Rattle.ch_link.specs.declared.LinkIn.TheVariants as inputs
-use Rattle.ch_link.specs.declared.LinkState.{LinkState}
 use Rattle.ch_link.specs.declared.LinkState.TheVariants as states
 use Rattle.ch_model.specs.declared.step.Step.{Step}
 use Rattle.ch_model.specs.declared.step.Step.TheVariants as steps
@@ -53,7 +52,6 @@ use Rattle.ch_laws_said.specs.Goes.{bare}
 use Rattle.ch_laws_said.specs.Puts.{only_on}
 use Rattle.ch_laws_said.specs.Heeds.{AreCalm, IsAnswer, FromDown, FromUp, Tells, AllTell, Heeds}
 use Rattle.ch_laws_fits.specs.Turns.{NoDials}
-use Rattle.ch_laws_said.specs.Heeds.{Rises}
 use Rattle.ch_laws_said.proofs.ItemHosts.{one_answer, heard}
 use Rattle.ch_laws_said.proofs.Utters.{one_key}
 

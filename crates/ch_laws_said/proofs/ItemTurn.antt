@@ -24,7 +24,7 @@ use Rattle.ch_model.specs.declared.step.Place.{Place}
 use Rattle.ch_model.specs.declared.step.Step.{Step}
 use Rattle.ch_model.specs.AccountsFrames.{Saying}
 use Rattle.ch_model.specs.AccountsItems.{frame_of, frames_of}
-use Rattle.ch_model.specs.CellSteps.{is_at, steps_on}
+use Rattle.ch_model.specs.CellSteps.{is_at}
 use Rattle.ch_model.specs.Host.{host_next}
 use Rattle.ch_model.specs.HostState.{Link, HostState}
 use Rattle.ch_model.specs.HostSteps.{link_with}
@@ -38,12 +38,11 @@ use Rattle.ch_model.specs.WorldHappenings.{with_cell}
 use Rattle.ch_model.specs.WorldSockets as ends
 use Rattle.ch_model.specs.WorldSockets.{end_of, is_socket_named, find_end}
 use Rattle.ch_model.specs.WorldState.{Cell, WorldSocket, World}
-use Rattle.ch_model.specs.WorldSteps.{note_entry, noted, place_after, stepped, all_told}
+use Rattle.ch_model.specs.WorldSteps.{note_entry, noted, stepped, all_told}
 use Rattle.ch_race.specs.Pair.{Side, other}
 use Rattle.ch_laws_bytes.proofs.Event.{set_at}
 use Rattle.ch_laws_bytes.proofs.Lines.{own_of}
 use Rattle.ch_laws_bytes.proofs.Told.{told_names}
-use Rattle.ch_laws_calls.specs.Calls.{with_host}
 use Rattle.ch_laws_calls.specs.Scenes.{IsPairOf, scene_of, SceneFacts}
 use Rattle.ch_laws_ends.proofs.Changes.{told_cells}
 use Rattle.ch_laws_ends.proofs.Found.{EachFound}
@@ -53,19 +52,19 @@ use Rattle.ch_laws_links.specs.Naming.{IsNaming}
 use Rattle.ch_laws_log.proofs.Stored.{found_end}
 use Rattle.ch_laws_log.proofs.WorldEnds.{found_is}
 use Rattle.ch_laws_log.specs.HostEnds.{steps_in}
-use Rattle.ch_laws_plain.specs.Talks.{MaySpell, IsUpThere}
+use Rattle.ch_laws_plain.specs.Talks.{IsUpThere}
 use Rattle.ch_laws_plain_logs.specs.Plain.{said_by}
 use Rattle.ch_laws_race.specs.Scene.{Party, host_in, hosts_of, link_of}
 use Rattle.ch_laws_turns.specs.Turns.{told_on}
-use Rattle.ch_laws_writes.specs.Dues.{Due, Answering, Framing, due_at}
+use Rattle.ch_laws_writes.specs.Dues.{Answering, Framing, due_at}
 use Rattle.ch_laws_writes.specs.Orderly.{IsOrderly}
 use Rattle.ch_laws_writes.proofs.Worlds.{number_is, number_same}
 use Rattle.ch_laws_writes.proofs.Written.{Begun}
-use Rattle.ch_laws_peers.specs.Words.{Placed, sayings, waiting_as}
-use Rattle.ch_laws_peers.specs.Says.{node_in, node_of, ArePlaced, IsUpOn, Says, AllSay}
+use Rattle.ch_laws_peers.specs.Words.{Placed, waiting_as}
+use Rattle.ch_laws_peers.specs.Says.{node_in, node_of, IsUpOn, Says, AllSay}
 use Rattle.ch_laws_peers.specs.Standing.{Standing}
-use Rattle.ch_laws_said.specs.Goes.{bare, Flows, frames_to, waits_for, said_to, given_to, mark_of, IsOne, Streams, NodeStays, Stays}
-use Rattle.ch_laws_said.specs.Heeds.{AreCalm, IsFirst, Rises, IsAnswer, FromDown, FromUp, Heeds, IsUnsaid, AreUnsaid, NodeHears, NodesHear, Follows}
+use Rattle.ch_laws_said.specs.Goes.{bare, Flows, frames_to, waits_for, said_to, given_to, mark_of, IsOne, Streams, NodeStays}
+use Rattle.ch_laws_said.specs.Heeds.{AreCalm, IsFirst, Rises, IsAnswer, FromDown, Heeds, IsUnsaid, AreUnsaid, NodeHears, NodesHear, Follows}
 use Rattle.ch_laws_said.specs.Puts.{spelled}
 use Rattle.ch_laws_said.proofs.ItemReads.{next_heeds}
 use Rattle.ch_laws_said.proofs.Makes.{seen_in}

@@ -1,5 +1,5 @@
 -- Processes by their names and by their ids, and where a node of a world stands: at its name's address, with its name's unique number.
-use Rattle.std.proofs.Common.{◌≡◌, ℕ, zero, suc, Bool, true, false, cond, ◌&&◌, List, [], ◌∷◌, ◌++◌, length, refl, sym, ap, ◌∙◌, subst}
+use Rattle.std.proofs.Common.{◌≡◌, ℕ, zero, suc, Bool, true, false, cond, List, [], ◌∷◌, ◌++◌, refl, sym, ap, ◌∙◌, subst}
 use Rattle.std.proofs.lemmas.Bool.{and_parts}
 use Rattle.std.proofs.lemmas.List.Quantifiers.{position-Some}
 use Rattle.std.proofs.lemmas.Slice.Eq.{bytes_eq-Decides}
@@ -8,7 +8,6 @@ use Rattle.std.specs.Prelude.{filter, find, is_some, map, slice_get, get_or, Opt
 use Rattle.std.specs.Str.{bytes_eq}
 use Rattle.ch_base.specs.Addresses.{IsAddress}
 use Rattle.ch_base.specs.declared.address.Address.{Address}
-use Rattle.ch_ident.specs.declared.identifier.ProcessId.{ProcessId}
 use Rattle.ch_watch.specs.Same.{same_node}
 use Rattle.ch_model.specs.declared.entry.Entry.{Entry}
 use Rattle.ch_model.specs.declared.line.Line.{Line}
@@ -19,7 +18,7 @@ use Rattle.ch_model.specs.CellSteps.{is_at}
 use Rattle.ch_model.specs.Declarations.{Peer, declared_by, peer, process_id}
 use Rattle.ch_model.specs.HostSteps.{own_address}
 use Rattle.ch_model.specs.Logs.{or_else}
-use Rattle.ch_model.specs.Naming.{Names, is_named, or_nobody, named_as, address_as, called, process_as, process_called}
+use Rattle.ch_model.specs.Naming.{Names, is_named, or_nobody, named_as, address_as, process_as, process_called}
 use Rattle.ch_model.specs.Node.{node_new}
 use Rattle.ch_model.specs.NodeState.{NodeState}
 use Rattle.ch_model.specs.World.{name_in, names_of, nodes_of, labels_of, same_host, first_of_hosts, cell_at, world_new}

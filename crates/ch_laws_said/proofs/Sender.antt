@@ -1,8 +1,8 @@
 -- A process that sends to a process of another node, by a line of the journal: all that its message needs.
-use Rattle.std.proofs.Common.{◌≡◌, ◌≤◌, ◌<◌, ℕ, Bool, true, false, ◌*◌, List, [], ◌∷◌, ◌++◌, length, Ok, refl, sym, ap, ◌∙◌, subst}
+use Rattle.std.proofs.Common.{◌≡◌, ◌≤◌, ℕ, Bool, true, false, ◌*◌, List, [], ◌∷◌, ◌++◌, length, Ok, refl, sym, ap, ◌∙◌, subst}
 use Rattle.std.proofs.lemmas.Slice.Eq.{bytes_eq-Decides}
 use Rattle.std.specs.Option.{option_map}
-use Rattle.std.specs.Prelude.{find, slice_get, Option, Some, None, ◌==◌}
+use Rattle.std.specs.Prelude.{find, slice_get, Option, Some, None}
 use Rattle.std.specs.Str.{bytes_eq}
 use Rattle.ch_base.specs.Addresses.{IsAddress}
 use Rattle.ch_base.specs.declared.address.Address.{Address}
@@ -19,7 +19,6 @@ use Rattle.ch_static.specs.declared.target.Target.TheVariants as targets
 use Rattle.ch_watch.specs.Same.{same_node}
 use Rattle.ch_wire.specs.declared.TheConstants.{MOST_PAYLOAD_BYTES}
 use Rattle.ch_model.specs.declared.act.Act.{Act}
-use Rattle.ch_model.specs.declared.act.Act.TheVariants as acts
 use Rattle.ch_model.specs.declared.entry.Entry.{Entry}
 use Rattle.ch_model.specs.declared.line.Line.{Line}
 use Rattle.ch_model.specs.declared.line.What.{What}
@@ -28,16 +27,16 @@ use Rattle.ch_model.specs.declared.local.LocalEntry.TheVariants as local
 use Rattle.ch_model.specs.declared.name.ProcName.{ProcName}
 use Rattle.ch_model.specs.declared.name.TargetName.TheVariants as names
 use Rattle.ch_model.specs.declared.note.Note.TheVariants as notes
-use Rattle.ch_model.specs.AccountsFrames.{pair_opening, target_id}
+use Rattle.ch_model.specs.AccountsFrames.{pair_opening}
 use Rattle.ch_model.specs.Cell.{room_for}
 use Rattle.ch_model.specs.CellSteps.{is_at, with_node, acts_on}
 use Rattle.ch_model.specs.Declarations as declarations
 use Rattle.ch_model.specs.HostState.{HostState}
 use Rattle.ch_model.specs.HostSteps.{own_address, link_with}
-use Rattle.ch_model.specs.Naming.{Names, is_named, or_nobody, named_as, address_as, called, process_as, process_called}
+use Rattle.ch_model.specs.Naming.{Names, is_named, or_nobody, named_as, address_as, process_as, process_called}
 use Rattle.ch_model.specs.Node.{node_command, target_node}
-use Rattle.ch_model.specs.NodeIds.{process_id, is_here, is_living}
-use Rattle.ch_model.specs.NodeState.{NodeState, Pair, Mark, Opened, Broken}
+use Rattle.ch_model.specs.NodeIds.{process_id, is_here}
+use Rattle.ch_model.specs.NodeState.{NodeState, Pair, Opened, Broken}
 use Rattle.ch_model.specs.World.{names_of, world_new}
 use Rattle.ch_model.specs.WorldHappenings.{with_cell}
 use Rattle.ch_model.specs.WorldSockets.{cell_of}
@@ -46,26 +45,26 @@ use Rattle.ch_model.specs.WorldSteps.{all_told}
 use Rattle.ch_race.specs.Pair.{Side, other}
 use Rattle.ch_laws_bytes.proofs.Lines.{own_of}
 use Rattle.ch_laws_bytes.specs.Streams.{AreAddresses}
-use Rattle.ch_laws_calls.specs.Scenes.{IsPairOf, scene_of}
+use Rattle.ch_laws_calls.specs.Scenes.{IsPairOf}
 use Rattle.ch_laws_connections.specs.Fits.{FitsAs, CellHolds}
 use Rattle.ch_laws_connections.specs.Senders.{sender_of}
 use Rattle.ch_laws_connections.specs.Tables.{given_so}
 use Rattle.ch_laws_ids.specs.Runs.{AllRun}
 use Rattle.ch_laws_log.specs.Declared.{is_declared}
 use Rattle.ch_laws_many.specs.ManyLines.{is_of_many}
-use Rattle.ch_laws_log.proofs.Homes.{called_so, node_self}
+use Rattle.ch_laws_log.proofs.Homes.{node_self}
 use Rattle.ch_laws_plain_nodes.specs.Does.{SendsAway, pair_between, sent_acts, sent_mark}
 use Rattle.ch_laws_plain_nodes.specs.Plain.{IsPlain}
 use Rattle.ch_laws_plain_nodes.proofs.Commands.{does_away, others_stay}
 use Rattle.ch_laws_plain_nodes.proofs.Sends.{away_pair}
-use Rattle.ch_laws_race.specs.Scene.{Party, host_in, link_of}
+use Rattle.ch_laws_race.specs.Scene.{Party, host_in}
 use Rattle.ch_laws_scenes.specs.Pairs.{IsPairFor}
 use Rattle.ch_laws_scenes.proofs.Sides.{pairs_of}
 use Rattle.ch_laws_turns.specs.Turns.{IsAsked, end_in, told_on}
 use Rattle.ch_laws_world.proofs.Journals.{address_stays}
 use Rattle.ch_laws_peers.specs.Says.{node_of, Says, AllSay}
 use Rattle.ch_laws_peers.specs.Standing.{IsOfNodes, Standing}
-use Rattle.ch_laws_said.specs.Goes.{mark_of, IsDeclared, AreWell, SaysWell}
+use Rattle.ch_laws_said.specs.Goes.{mark_of, IsDeclared, SaysWell}
 use Rattle.ch_laws_said.proofs.Acts.{Noted, noted}
 use Rattle.ch_laws_said.proofs.Asks.{Acts, Agreed, AsksPlainly, asks_plainly, sender_acts, command_agreed, opening_short}
 use Rattle.ch_laws_said.proofs.AskedAway.{MaySend, away_went}
@@ -190,7 +189,7 @@ module _ (journal : List Line) (nodes : IsOfNodes journal) (log : List Entry) (w
 
 -- ---- the turn
 
--- what is known of a log is known of its beginning, and of an entry behind that
+-- where all sayings of a log are well, so are those of its beginning, and those behind it
 said_well : (journal : List Line) (log more : List Entry) → SaysWell journal (log ++ more) → SaysWell journal log × SaysWell journal more
 said_well journal [] more w = (tt, w)
 said_well journal (entry ∷ rest) more w = let k = said_well journal rest more w.1 in ((w.0, k.0), k.1)

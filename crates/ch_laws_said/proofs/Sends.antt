@@ -102,25 +102,25 @@ living_same : (node next : NodeState) (b : ℕ) → next ≡ record node { pairs
 unfolding is_living life_here is_own
 living_same node next b same = ap (λ (n : NodeState). is_living n (process_id n b)) same
 
-one_process : (a b : ProcessId) → same_process a b ≡ true → a ≡ b
+pub one_process : (a b : ProcessId) → same_process a b ≡ true → a ≡ b
 unfolding same_process
 one_process a b h =
     let first = and_parts (same_node a.node b.node) ((a.unique == b.unique) && (a.counter == b.counter)) h in
     let rest = and_parts (a.unique == b.unique) (a.counter == b.counter) first.1 in
     ap (λ (z : Address). record a { node = z }) (node_is a.node b.node first.0) ∙ ap (λ (z : ℕ). record a { node = b.node; unique = z }) (number_is a.unique b.unique rest.0) ∙ ap (λ (z : ℕ). record b { counter = z }) (number_is a.counter b.counter rest.1)
 
-process_self : (a : ProcessId) → same_process a a ≡ true
+pub process_self : (a : ProcessId) → same_process a a ≡ true
 unfolding same_process
 process_self a = ap (λ (b : Bool). b && ((a.unique == a.unique) && (a.counter == a.counter))) (node_self a.node) ∙ ap (λ (b : Bool). b && (a.counter == a.counter)) (number_same a.unique) ∙ number_same a.counter
 
 -- the node that was stored is found
-abbrev found_node : Option (ℕ × NodeState) → Option NodeState
+abbrev pub found_node : Option (ℕ × NodeState) → Option NodeState
 found_node o = elim o [
   | None ↦ None
   | Some there ↦ Some there.1
 ]
 
-stored_here : (end : ℕ) (next : NodeState) (there : ℕ × NodeState) (nodes : List (ℕ × NodeState)) → find (is_at end) nodes ≡ Some there → find (is_at end) (store_node end next nodes) ≡ Some (end, next)
+pub stored_here : (end : ℕ) (next : NodeState) (there : ℕ × NodeState) (nodes : List (ℕ × NodeState)) → find (is_at end) nodes ≡ Some there → find (is_at end) (store_node end next nodes) ≡ Some (end, next)
 stored_here end next there [] e = absurd cc
 stored_here end next there (known ∷ rest) e = by_test (is_at end known) refl e (stored_here end next there rest) where
   by_test : (b : Bool) → is_at end known ≡ b → cond b (Some known) (find (is_at end) rest) ≡ Some there → (find (is_at end) rest ≡ Some there → find (is_at end) (store_node end next rest) ≡ Some (end, next)) → find (is_at end) (cond b ((end, next) ∷ rest) (known ∷ store_node end next rest)) ≡ Some (end, next)

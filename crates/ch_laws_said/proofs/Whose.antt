@@ -1,8 +1,7 @@
 -- Whose end a link of a cell is up on: an end of x towards the other, on which a link of a cell is up, is one that x's link with the other is up on.
-use Rattle.std.proofs.Common.{◌≡◌, ◌⊎◌, inl, inr, ℕ, Bool, true, false, ◌&&◌, List, refl, sym, ap, ◌∙◌, subst}
+use Rattle.std.proofs.Common.{◌≡◌, ℕ, Bool, true, false, ◌&&◌, refl, sym, ap, ◌∙◌, subst}
 use Rattle.std.proofs.lemmas.Bool.{and_parts}
 use Rattle.std.specs.Prelude.{find, slice_get, Option, Some, ◌==◌}
-use Rattle.ch_base.specs.declared.address.Address.{Address}
 use Rattle.ch_link.specs.declared.LinkState.TheVariants as states
 use Rattle.ch_model.specs.declared.name.End.{End}
 use Rattle.ch_model.specs.declared.name.SockName.{SockName}

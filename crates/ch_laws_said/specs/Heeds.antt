@@ -1,6 +1,5 @@
 -- What a host makes of its links as it reads an item, where no link fails: what it puts on them, and what it writes as one comes up.
-use Rattle.std.specs.Prelude.{◌≡◌, ◌⊎◌, ℕ, Bool, true, false, List, [], ◌∷◌, ◌++◌, length, find, slice_get, Some, Result, Ok, Err}
-use Rattle.std.specs.Prelude.{◌≤◌}
+use Rattle.std.specs.Prelude.{◌≡◌, ◌⊎◌, ◌≤◌, ℕ, Bool, true, false, List, [], ◌∷◌, ◌++◌, length, find, Option, Some, Ok, Err}
 use Rattle.ch_base.specs.declared.address.Address.{Address}
 use Rattle.ch_base.specs.declared.event.Event.TheVariants as events
 use Rattle.ch_link.specs.declared.LinkState.TheVariants as states
@@ -26,7 +25,6 @@ use Rattle.ch_laws_peers.specs.Words.{Placed, words_in, waiting_as}
 use Rattle.ch_laws_peers.specs.Says.{ArePlaced}
 use Rattle.ch_laws_said.specs.Goes.{bare}
 use Rattle.ch_laws_said.specs.Puts.{spelled}
-use Rattle.std.specs.Prelude.{Option}
 
 -- no step tells that a link has failed
 abbrev pub AreCalm : List Step → Type 0

@@ -1,6 +1,6 @@
 //! What a node has said to another is carried, in order, by what it has written for it and what it keeps until their link is up.
 //!
-//! The claim is `AllSay` of `ch_laws_words`. Here is what its induction rests on. A turn in which a node says nothing to the
+//! The claim is `AllSay` of `ch_laws_peers`. Here is what its induction rests on. A turn in which a node says nothing to the
 //! other, and no payload goes, leaves it; so does one in which a message is said and goes on its pair's connection, behind
 //! the opening of that where it is new. How a turn of a host goes on in the streams of each two nodes is shown of whatever it
 //! puts on its links (`proofs/Turned.antt`, `proofs/Turn.antt`), and what a host puts there for a message, act by act
@@ -14,12 +14,14 @@ ghost use Rattle.ch_base.specs.declared.event.Room.{Room};
 ghost use Rattle.ch_ident.specs.declared.identifier.ProcessId.{ProcessId};
 ghost use Rattle.ch_ident.specs.declared.message.Message.{Message};
 ghost use Rattle.ch_light.specs.declared.TheConstants.{FIRST_ID};
+ghost use Rattle.ch_static.specs.declared.command.Command.{Command};
 ghost use Rattle.ch_static.specs.declared.command.Command.TheVariants.{Receive};
 ghost use Rattle.ch_model.specs.declared.act.Act.{Act};
 ghost use Rattle.ch_model.specs.declared.entry.Entry.{Entry};
 ghost use Rattle.ch_model.specs.declared.entry.Entry.TheVariants as entries;
 ghost use Rattle.ch_model.specs.declared.entry.Verdict.{Verdict};
 ghost use Rattle.ch_model.specs.declared.line.Line.{Line};
+ghost use Rattle.ch_model.specs.declared.line.What.{What};
 ghost use Rattle.ch_model.specs.declared.local.LocalEntry.{LocalEntry};
 ghost use Rattle.ch_model.specs.declared.name.End.{End};
 ghost use Rattle.ch_model.specs.declared.name.ProcName.{ProcName};
@@ -28,9 +30,10 @@ ghost use Rattle.ch_model.specs.declared.step.SocketEvent.TheVariants.{Came, Fed
 ghost use Rattle.ch_model.specs.declared.step.Step.{Step};
 ghost use Rattle.ch_model.specs.AccountsFrames.{pair_opening};
 ghost use Rattle.ch_model.specs.AccountsItems.{first_payload};
+ghost use Rattle.ch_model.specs.Cell.{room_for};
 ghost use Rattle.ch_model.specs.CellSteps.{is_at, with_node, acts_on};
 ghost use Rattle.ch_model.specs.HostState.{HostState};
-ghost use Rattle.ch_model.specs.Node.{node_make, node_command};
+ghost use Rattle.ch_model.specs.Node.{node_make, node_command, target_node};
 ghost use Rattle.ch_model.specs.NodeState.{NodeState};
 ghost use Rattle.ch_model.specs.World.{world_new};
 ghost use Rattle.ch_model.specs.WorldLines.{can_come};
@@ -41,7 +44,7 @@ ghost use Rattle.ch_laws_calls.specs.Calls.{done_at, IsCalled, IsIn, come_in, fe
 ghost use Rattle.ch_laws_calls.specs.Tables.{Table, frames_on};
 ghost use Rattle.ch_laws_ids.specs.Runs.{AllRun};
 ghost use Rattle.ch_laws_plain_logs.specs.Plain.{IsPlain};
-ghost use Rattle.ch_laws_turns.specs.Turns.{told_on};
+ghost use Rattle.ch_laws_turns.specs.Turns.{IsAsked, end_in, told_on};
 ghost use Rattle.ch_laws_peers.specs.Words.{Placed, words_in, datas_in, sayings, opens_one};
 ghost use Rattle.ch_laws_peers.specs.Says.{Says, AllSay, has_said};
 ghost use Rattle.ch_laws_peers.specs.Standing.{IsOfNodes, Standing};
@@ -83,6 +86,15 @@ pub fn what_comes_and_is_taken_says_nothing()
 pub fn messages_to_other_nodes_are_carried()
     ensures { (journal : List Line) (log : List Entry) (world : World) (place : ℕ) (cell : Cell × ℕ) (end number : ℕ) (node next : NodeState) (by : ℕ) (to : ProcessId) (epoch index : ℕ) (said : Message) (told : List LocalEntry) (after : Cell) → slice_get world.cells place ≡ Some cell → find (is_at end) cell.0.nodes ≡ Some (number, node)
         → Went journal world cell.0 end node next by to epoch index said told after → Standing journal log world → AllRun log world → SaysWell journal log → AllSay journal log world → let all = told_on place cell after told world in AllSay journal (log ++ all.0) all.1 }
+{}
+
+/// So it is, then, in each turn in which a process asks something of its node by a line of the journal: it sends to a process of
+/// another node, or of its own; it takes a message; or it ends, and its connections are closed.
+pub fn what_is_asked_is_carried_on()
+    ensures { (journal : List Line) → IsOfNodes journal → (log : List Entry) (world : World) (what : What) (by : ProcName) (command : Command) (place : ℕ) (cell : Cell × ℕ) (number : ℕ) (node : NodeState) (done : List Act) (next : NodeState) (told : List LocalEntry) (after : Cell) → IsAsked journal world what by command place
+        → slice_get world.cells place ≡ Some cell → find (is_at (end_in world by)) cell.0.nodes ≡ Some (number, node) → node_command node by.counter command (room_for cell.0.host (end_in world by) node.own (target_node node by.counter command)) ≡ Ok (done, next)
+        → acts_on (end_in world by) done (with_node (end_in world by) next cell.0) ≡ Ok (told, after) → Standing journal log world → AllRun log world → AllSay journal log world
+        → let all = told_on place cell after told world in SaysWell journal (log ++ all.0) → AllSay journal (log ++ all.0) all.1 }
 {}
 
 /// In a plain log whose sayings are of processes with ids in their rule, what opens the connection of a pair is the opening of no

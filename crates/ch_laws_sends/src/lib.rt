@@ -5,7 +5,7 @@
 //! payloads wait, and how many ids were given. Here it is shown that the log tells the same: ends that came up; lines that were done,
 //! each of which said one message; and pairs, each of which began with one.
 //!
-//! No code: laws as clauses of empty functions, over the model below and over what is said of two nodes there (ch_laws_words).
+//! No code: laws as clauses of empty functions, over the model below and over what is said of two nodes there (ch_laws_peers).
 #![tactic(auto)]
 
 ghost use Rattle.std.specs.Prelude.{◌≡◌, ℕ, false, List, [], length, Ok, IsTrue};
@@ -36,7 +36,7 @@ ghost use Rattle.ch_laws_sends.specs.Sends.{is_answered_send, send_done, AreWeig
 ghost use Rattle.ch_laws_sends.specs.Turns.{Told, EndsAskNone, ItemsAskNone};
 
 /// Each line by which a process that lives sends to one of another node is answered as the log before it shows, where after each
-/// front of the journal hosts and nodes stand as they do (ch_laws_words), all that was said is carried, and links have given an id for
+/// front of the journal hosts and nodes stand as they do (ch_laws_peers), all that was said is carried, and links have given an id for
 /// each pair. So it is of any journal of many nodes whose processes' counters fit their words, in whose log messages are numbered as
 /// they come; and of each journal that the grammar of many nodes reads.
 pub fn sends_are_answered()

@@ -1,18 +1,15 @@
 -- What a host reads as it handles an item: that one alone; and nothing as the input of a socket ends, or an end is joined.
-use Rattle.std.proofs.Common.{◌≡◌, ◌⊎◌, inl, inr, ℕ, suc, ◌+◌, Bool, true, false, cond, List, [], ◌∷◌, ◌++◌, map, drop, Ok, Err, refl, sym, ap, ◌∙◌, subst}
+use Rattle.std.proofs.Common.{◌≡◌, ◌⊎◌, inl, inr, ℕ, suc, Bool, true, false, cond, List, [], ◌∷◌, drop, Ok, Err, refl, sym, ap, ◌∙◌, subst}
 use Rattle.std.proofs.lemmas.Bool.{and_parts}
 use Rattle.std.specs.Prelude.{find, Option, Some, None, Result, nat_lt, ◌==◌}
 use Rattle.ch_base.specs.declared.address.Address.{Address}
 use Rattle.ch_base.specs.declared.event.Event.TheVariants as events
-use Rattle.ch_base.specs.declared.memory.Stop.{Stop}
 use Rattle.ch_base.specs.declared.memory.Stop.TheVariants as stops
-use Rattle.ch_wire.specs.Spelling.{request_spelling, answer_spelling, frame_spelling}
+use Rattle.ch_wire.specs.Spelling.{request_spelling}
 use Rattle.ch_wire.specs.declared.answer.Answer.{Answer}
-use Rattle.ch_wire.specs.declared.answer.Answer.TheVariants as answers
 use Rattle.ch_wire.specs.declared.frame.Frame.{Frame}
 use Rattle.ch_wire.specs.declared.frame.Frame.TheVariants as frames
 use Rattle.ch_wire.specs.declared.request.Request.{Request}
-use Rattle.ch_reader.specs.declared.item.Expected.{Expected}
 use Rattle.ch_reader.specs.declared.item.Expected.TheVariants as expected
 use Rattle.ch_reader.specs.declared.item.Front.{Front}
 use Rattle.ch_reader.specs.declared.item.Front.TheVariants.{Unfinished, Whole, Refused}
@@ -28,22 +25,19 @@ use Rattle.ch_link.specs.declared.LinkIn.{LinkIn}
 use Rattle.ch_link.specs.declared.LinkIn.TheVariants as inputs
 use Rattle.ch_link.specs.declared.LinkState.{LinkState}
 use Rattle.ch_link.specs.declared.LinkState.TheVariants as states
-use Rattle.ch_model.specs.declared.step.Place.{Place}
 use Rattle.ch_model.specs.declared.step.SocketEvent.TheVariants as sockets
 use Rattle.ch_model.specs.declared.step.Step.{Step}
 use Rattle.ch_model.specs.declared.step.Step.TheVariants as steps
-use Rattle.ch_model.specs.declared.step.Weight.{Weight}
 use Rattle.ch_model.specs.Greater.{is_greater}
-use Rattle.ch_model.specs.Host.{joins, front_of, is_ready_front, first_ready, takes, handles, some_steps, host_on, host_next}
+use Rattle.ch_model.specs.Host.{joins, front_of, is_ready_front, first_ready, takes, handles, host_on, host_next}
 use Rattle.ch_model.specs.HostItems.{most_arrived, posts, gone_from, is_gone, refusal_of, asks_link, reads_request, heard_answer, arrived_at, with_arrival, next_arrival, arrives, closes, receives, reads_frame, reads_on, reads}
 use Rattle.ch_model.specs.HostLinks.{does_act, hears}
 use Rattle.ch_model.specs.HostState.{Link, Socket, HostState}
 use Rattle.ch_model.specs.HostSteps.{Stepped, still, after_steps, own_address, link_with, with_link, with_socket, is_socket}
-use Rattle.ch_model.specs.HostWrites.{writes, said_of, is_up, frame_step, leaves, answers_and_leaves, end_socket}
-use Rattle.ch_model.specs.Stages.{Stage, Pending, Open, Ended, is_pending, is_open, is_ended}
+use Rattle.ch_model.specs.HostWrites.{writes, leaves, answers_and_leaves}
+use Rattle.ch_model.specs.Stages.{Open, is_pending, is_open}
 use Rattle.ch_laws_items.proofs.Next.{served}
 use Rattle.ch_laws_log.specs.HostEnds.{IsSound}
-use Rattle.ch_laws_log.proofs.Stored.{number_is}
 use Rattle.ch_laws_plain.proofs.ReadsTurns.{next_done}
 use Rattle.ch_laws_reads.specs.Reads.{reads_of}
 use Rattle.ch_laws_fits.proofs.Stores.{waits_read}

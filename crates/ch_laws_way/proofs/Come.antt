@@ -1,7 +1,7 @@
 -- What is under way between two nodes, by what was written at each end.
-use Rattle.std.proofs.Common.{◌≡◌, ◌⊎◌, inl, inr, ◌≤◌, ℕ, suc, ◌+◌, ◌-◌, Bool, true, false, cond, not, ◌&&◌, List, [], ◌∷◌, ◌++◌, length, drop, filter_map, map, refl, sym, ap, ◌∙◌, subst, arith, append_assoc}
+use Rattle.std.proofs.Common.{◌≡◌, ◌⊎◌, inl, inr, ◌≤◌, ℕ, suc, ◌+◌, ◌-◌, Bool, true, false, cond, not, ◌&&◌, List, [], ◌∷◌, ◌++◌, length, drop, filter_map, refl, sym, ap, ◌∙◌, subst, arith, append_assoc}
 use Rattle.std.proofs.lemmas.Bool.Decides.{nat_tests}
-use Rattle.std.proofs.lemmas.List.{append-nil, length-append, length-map}
+use Rattle.std.proofs.lemmas.List.{length-append, length-map}
 use Rattle.std.proofs.lemmas.List.Elements.{filter_map-append}
 use Rattle.std.proofs.Math.Seq.{drop-append_seam}
 use Rattle.std.specs.List.{cons_option}
@@ -25,9 +25,9 @@ use Rattle.ch_model.specs.AccountsFrames.{Saying}
 use Rattle.ch_model.specs.AccountsItems.{frame_of, frames_of}
 use Rattle.ch_model.specs.HostWrites.{is_up}
 use Rattle.ch_model.specs.Logs.{kept_with, collected_after, never}
-use Rattle.ch_model.specs.Same.{across, is_end_of, same_socket, same_end, owner}
+use Rattle.ch_model.specs.Same.{across, is_end_of, same_end}
 use Rattle.ch_model.specs.Sockets.{writing, writings}
-use Rattle.ch_model.specs.WorldSockets.{end_of, is_socket_named, find_end}
+use Rattle.ch_model.specs.WorldSockets.{end_of, is_socket_named}
 use Rattle.ch_model.specs.WorldState.{WorldSocket, World}
 use Rattle.ch_race.specs.Pair.{Side, other}
 use Rattle.ch_laws_bytes.specs.Streams.{Reader, reader_of, first_at, is_over}
@@ -37,11 +37,11 @@ use Rattle.ch_laws_race.proofs.Readings.{other_twice}
 use Rattle.ch_laws_race.specs.Scene.{Party, link_of}
 use Rattle.ch_laws_peers.specs.Words.{Placed, placing, sayings}
 use Rattle.ch_laws_peers.specs.Says.{written_by, frames_towards, towards, IsUpOn, Says}
-use Rattle.ch_laws_peers.specs.Reads.{PlacedItem, items_in, places_in, placed_in, UnderWay, IsUnderWay, reads_expecting, reads_with, reads_at, reads_across, reads_from, reads, Way, IsWay, Comes}
+use Rattle.ch_laws_peers.specs.Reads.{PlacedItem, items_in, placed_in, UnderWay, IsUnderWay, reads_expecting, reads_with, reads_at, reads_across, reads_from, reads, Way, IsWay, Comes}
 use Rattle.ch_laws_peers.specs.Standing.{Standing}
 use Rattle.ch_laws_way.specs.Goes.{written_frames, OnWay}
 use Rattle.ch_laws_way.proofs.Frames.{placed_append}
-use Rattle.ch_laws_way.proofs.Ups.{UpAt, up_at, UpEnd, up_end, up_once, named_end, frame_up, both_up}
+use Rattle.ch_laws_way.proofs.Ups.{UpAt, up_at, up_end, up_once, named_end, frame_up, both_up}
 use Rattle.ch_laws_way.proofs.Ways.{items_append, follow_rest, way_frames}
 
 clash : {A : Type 0} → true ≡ false → A

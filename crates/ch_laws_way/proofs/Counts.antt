@@ -1,8 +1,8 @@
 -- How many of the frames that a node has written are read, before and after a turn.
-use Rattle.std.proofs.Common.{◌≡◌, ◌⊎◌, inl, inr, ◌≤◌, ℕ, zero, suc, ◌+◌, Bool, true, false, cond, List, [], ◌∷◌, ◌++◌, length, drop, filter_map, map, refl, sym, ap, ◌∙◌, subst, arith, append_assoc}
+use Rattle.std.proofs.Common.{◌≡◌, ◌⊎◌, inl, inr, ◌≤◌, ℕ, ◌+◌, Bool, true, false, cond, List, [], ◌∷◌, ◌++◌, length, drop, filter_map, refl, sym, ap, ◌∙◌, subst, arith, append_assoc}
 use Rattle.std.proofs.lemmas.List.{append-nil, length-append}
 use Rattle.std.proofs.lemmas.List.Elements.{filter_map-append}
-use Rattle.std.specs.Prelude.{find, slice_get, Option, Some, None, ◌==◌}
+use Rattle.std.specs.Prelude.{find, Option, Some, None, ◌==◌}
 use Rattle.ch_wire.specs.declared.frame.Frame.{Frame}
 use Rattle.ch_reader.specs.declared.item.Expected.{Expected}
 use Rattle.ch_model.specs.declared.entry.Entry.{Entry}
@@ -21,16 +21,16 @@ use Rattle.ch_model.specs.WorldSockets.{end_of, is_socket_named}
 use Rattle.ch_model.specs.WorldState.{WorldSocket, World}
 use Rattle.ch_race.specs.Pair.{Side, other}
 use Rattle.ch_laws_bytes.specs.Streams.{Reader, reader_of, first_at, is_over}
-use Rattle.ch_laws_calls.specs.Scenes.{IsPairOf, SceneFacts, scene_of}
+use Rattle.ch_laws_calls.specs.Scenes.{IsPairOf, scene_of}
 use Rattle.ch_laws_race.specs.Scene.{Party, link_of}
 use Rattle.ch_laws_race.proofs.Readings.{other_twice}
 use Rattle.ch_laws_reads.specs.Reads.{reads_of}
 use Rattle.ch_laws_places.proofs.Sockets.{reads_for, reads_at_end}
 use Rattle.ch_laws_peers.specs.Words.{Placed, placing, sayings}
 use Rattle.ch_laws_peers.specs.Says.{written_by, frames_towards, towards, IsUpOn, Says}
-use Rattle.ch_laws_peers.specs.Reads.{PlacedItem, frames_among, placed_in, reads_with, reads, Way, IsWay, Comes}
+use Rattle.ch_laws_peers.specs.Reads.{PlacedItem, placed_in, reads_with, reads, Way, IsWay, Comes}
 use Rattle.ch_laws_peers.specs.Standing.{IsOfNodes, Standing}
-use Rattle.ch_laws_way.specs.Goes.{written_frames, GoesOn, IsGoing, new_for, EndTurn, EndOpens, AllTurn, OnWay, GoTruly}
+use Rattle.ch_laws_way.specs.Goes.{written_frames, GoesOn, IsGoing, new_for, EndTurn, EndOpens, AllTurn, GoTruly}
 use Rattle.ch_laws_way.specs.ReadingGoes.{Grown}
 use Rattle.ch_laws_way.proofs.Come.{up_wrote, reads_up, way_reads, up_or, reads_down, across_end}
 use Rattle.ch_laws_way.proofs.Frames.{placed_append}
@@ -88,17 +88,17 @@ none_before log more s e none = by_first (writings log s e) refl (ap (λ (l : Li
 -- ---- where nothing was written
 
 -- a node's end, and what is written there
-end_named : (journal : List Line) (log : List Entry) (world : World) (party : Side → Party) (x : Side) (s : SockName) (e : End) → Standing journal log world → IsPairOf journal party → IsUpOn party world x s e → is_end_of (party x).name (party (other x)).name s e ≡ true
+pub end_named : (journal : List Line) (log : List Entry) (world : World) (party : Side → Party) (x : Side) (s : SockName) (e : End) → Standing journal log world → IsPairOf journal party → IsUpOn party world x s e → is_end_of (party x).name (party (other x)).name s e ≡ true
 end_named journal log world party x s e st pair u = let a = up_at journal log world party x s e st pair u in subst (λ (n : SockName). is_end_of (party x).name (party (other x)).name n e ≡ true) a.name (named_end party world x e a.i u.number a.socket (st.each_pair.shown party pair).names_differ a.has)
 
 -- the frames at any end are none, where x has written none
-none_there : (journal : List Line) (log : List Entry) (world : World) (party : Side → Party) (x : Side) (s : SockName) (e : End) → Says journal log world party x → is_end_of (party x).name (party (other x)).name s e ≡ true → frames_towards (party x).name (party (other x)).name log ≡ [] → written_frames (sayings (party x).name (party (other x)).name log) (writings log s e) ≡ []
+pub none_there : (journal : List Line) (log : List Entry) (world : World) (party : Side → Party) (x : Side) (s : SockName) (e : End) → Says journal log world party x → is_end_of (party x).name (party (other x)).name s e ≡ true → frames_towards (party x).name (party (other x)).name log ≡ [] → written_frames (sayings (party x).name (party (other x)).name log) (writings log s e) ≡ []
 none_there journal log world party x s e says of none = ap (placing (sayings (party x).name (party (other x)).name log) [] 0) (by_one (says.one s e of)) where
   by_one : (frames_of log s e ≡ []) ⊎ (IsUpOn party world x s e × (frames_of log s e ≡ frames_towards (party x).name (party (other x)).name log)) → frames_of log s e ≡ []
   by_one (inl gone) = gone
   by_one (inr u) = u.1 ∙ none
 
-no_placed : (gone all : List PlacedItem) → placed_in (gone ++ all) ≡ [] → (placed_in gone ≡ []) × (placed_in all ≡ [])
+pub no_placed : (gone all : List PlacedItem) → placed_in (gone ++ all) ≡ [] → (placed_in gone ≡ []) × (placed_in all ≡ [])
 no_placed gone all e = let both : placed_in gone ++ placed_in all ≡ [] = sym (placed_append gone all) ∙ e in (no_front (placed_in gone) (placed_in all) both, no_back (placed_in gone) (placed_in all) both) where
   no_back : {A : Type 0} (xs ys : List A) → xs ++ ys ≡ [] → ys ≡ []
   no_back [] ys e = e
@@ -236,7 +236,7 @@ module _ (journal : List Line) (log : List Entry) (world : World) (more : List E
     taken = (no_placed w.on.taken w.on.others (ap placed_in (sym w.on.split) ∙ were.1)).0
 
   -- then nothing is read before or after
-  none_counts : frames_towards (party x).name (party (other x)).name log ≡ [] → (reads party world x log ≡ 0) × (reads party after x (log ++ more) ≡ 0)
+  pub none_counts : frames_towards (party x).name (party (other x)).name log ≡ [] → (reads party world x log ≡ 0) × (reads party after x (log ++ more) ≡ 0)
   none_counts none = (no_less (reads party world x log) (subst (λ (l : List Placed). reads party world x log ≤ length l) (ap (placing said [] 0) none) m.comes.within), by_up (up_or journal (log ++ more) after party x m.later m.pair)) where
     by_turn : (u : UpThen) → EndTurn place told new log world (log ++ more) after u.s u.socket u.e ⊎ EndOpens log world (log ++ more) after u.s u.socket u.e → reads party after x (log ++ more) ≡ 0
     by_turn u (inr o) = opened_counts u o

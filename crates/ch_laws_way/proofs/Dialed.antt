@@ -26,7 +26,7 @@ use Rattle.ch_model.specs.WorldHappenings.{with_cell}
 use Rattle.ch_model.specs.WorldSockets.{end_of, is_socket_named, end_of_nobody, store_in, cell_of, target_end, new_socket}
 use Rattle.ch_model.specs.WorldState.{Cell, WorldSocket, World}
 use Rattle.ch_model.specs.WorldSteps.{noted, all_told}
-use Rattle.ch_laws_bytes.specs.Streams.{Reader, reader_in, reader_at, readers_of, reads_at, first_at, reader_of}
+use Rattle.ch_laws_bytes.specs.Streams.{reader_in, reader_at, readers_of, reads_at, first_at, reader_of}
 use Rattle.ch_laws_ends.proofs.Changes.{told_cells}
 use Rattle.ch_laws_ends.proofs.Places.{got_same}
 use Rattle.ch_laws_log.specs.HostEnds.{steps_in}

@@ -1,11 +1,11 @@
 -- The frames among items that were written, read back from their bytes.
-use Rattle.std.proofs.Common.{◌≡◌, ℕ, Bool, cond, List, [], ◌∷◌, ◌++◌, drop, filter_map, map, refl, sym, ap, ◌∙◌, subst}
+use Rattle.std.proofs.Common.{◌≡◌, ℕ, cond, List, [], ◌∷◌, ◌++◌, drop, filter_map, refl, sym, ap, ◌∙◌, subst}
 use Rattle.std.proofs.lemmas.List.{append-nil}
 use Rattle.std.specs.List.{cons_option}
-use Rattle.std.specs.Prelude.{length, Option, Some, None, ◌==◌}
+use Rattle.std.specs.Prelude.{length, Option, Some, None}
 use Rattle.ch_wire.specs.Spelling.{IsFrame, frame_spelling}
 use Rattle.ch_wire.specs.declared.frame.Frame.{Frame}
-use Rattle.ch_reader.specs.Items.{item_spelling, MayFollow}
+use Rattle.ch_reader.specs.Items.{MayFollow}
 use Rattle.ch_reader.specs.Reading.{reading}
 use Rattle.ch_reader.specs.declared.item.Expected.TheVariants as expected
 use Rattle.ch_reader.specs.declared.item.Front.{Front}
@@ -14,7 +14,6 @@ use Rattle.ch_reader.specs.declared.item.Item.TheVariants as items
 use Rattle.ch_reader.proofs.Complete.{reads_item}
 use Rattle.ch_model.specs.declared.name.End.{End}
 use Rattle.ch_model.specs.declared.name.End.TheVariants.{O, T}
-use Rattle.ch_model.specs.declared.step.Place.{Place}
 use Rattle.ch_model.specs.AccountsItems.{item_of_front, frame_of}
 use Rattle.ch_laws_bytes.specs.Streams.{first_at}
 use Rattle.ch_laws_log.proofs.Stored.{number_same}

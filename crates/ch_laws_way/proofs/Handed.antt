@@ -18,7 +18,6 @@ use Rattle.ch_model.specs.Host.{accepted, keeps, host_on}
 use Rattle.ch_model.specs.HostState.{Socket, HostState}
 use Rattle.ch_model.specs.HostSteps.{Stepped, still, is_socket, with_socket}
 use Rattle.ch_model.specs.Same.{same_socket, same_end}
-use Rattle.ch_model.specs.Sockets.{writings}
 use Rattle.ch_model.specs.Stages.{Stage, Pending, Open, Ended, is_pending, is_open, is_ended}
 use Rattle.ch_model.specs.WorldHappenings.{with_cell}
 use Rattle.ch_model.specs.WorldLines.{can_come, can_feed, is_at_work}

@@ -1,5 +1,5 @@
 -- A turn in which a host reads an item, or is told that the input of a socket has ended: what it writes, and that it is true.
-use Rattle.std.proofs.Common.{◌≡◌, ◌⊎◌, inl, inr, ℕ, suc, Bool, true, false, cond, List, [], ◌∷◌, ◌++◌, map, Ok, refl, sym, ap, ◌∙◌, subst}
+use Rattle.std.proofs.Common.{◌≡◌, ◌⊎◌, inl, inr, ℕ, suc, Bool, true, false, cond, List, [], ◌∷◌, ◌++◌, Ok, refl, sym, ap, ◌∙◌, subst}
 use Rattle.std.specs.Prelude.{find, length, slice_get, Option, Some, None, ◌==◌}
 use Rattle.ch_base.specs.declared.address.Address.{Address}
 use Rattle.ch_wire.specs.Spelling.{answer_spelling}
@@ -7,7 +7,6 @@ use Rattle.ch_wire.specs.declared.answer.Answer.TheVariants as answers
 use Rattle.ch_link.specs.declared.LinkState.TheVariants.{Up}
 use Rattle.ch_model.specs.declared.entry.Entry.{Entry}
 use Rattle.ch_model.specs.declared.line.Line.{Line}
-use Rattle.ch_model.specs.declared.local.LocalEntry.{LocalEntry}
 use Rattle.ch_model.specs.declared.name.End.{End}
 use Rattle.ch_model.specs.declared.name.End.TheVariants.{O, T}
 use Rattle.ch_model.specs.declared.name.SockName.{SockName}
@@ -16,14 +15,12 @@ use Rattle.ch_model.specs.declared.step.Step.{Step}
 use Rattle.ch_model.specs.declared.step.Step.TheVariants as steps
 use Rattle.ch_model.specs.AccountsFrames.{Saying}
 use Rattle.ch_model.specs.AccountsItems.{frames_of}
-use Rattle.ch_model.specs.CellSteps.{steps_on}
 use Rattle.ch_model.specs.Host.{host_on, host_next}
 use Rattle.ch_model.specs.HostState.{Link, Socket, HostState}
 use Rattle.ch_model.specs.HostSteps.{link_with, is_socket}
 use Rattle.ch_model.specs.HostWrites.{is_up}
-use Rattle.ch_model.specs.Same.{across, is_end_of}
+use Rattle.ch_model.specs.Same.{is_end_of}
 use Rattle.ch_model.specs.Sockets.{writings}
-use Rattle.ch_model.specs.WorldSockets as ends
 use Rattle.ch_model.specs.WorldSockets.{end_of, is_socket_named}
 use Rattle.ch_model.specs.WorldState.{Cell, WorldSocket, World}
 use Rattle.ch_race.specs.Pair.{Side, other}
@@ -32,11 +29,10 @@ use Rattle.ch_laws_bytes.proofs.Lines.{own_of}
 use Rattle.ch_laws_calls.specs.Scenes.{IsPairOf, SceneFacts, scene_of}
 use Rattle.ch_laws_links.specs.Naming.{IsNaming, IsUpFor}
 use Rattle.ch_laws_links.proofs.Says.{risen}
-use Rattle.ch_laws_log.specs.HostEnds.{IsSound}
 use Rattle.ch_laws_log.proofs.Stored.{number_is}
 use Rattle.ch_laws_race.specs.Chains.{unposted}
 use Rattle.ch_laws_race.specs.Reading.{IsUser}
-use Rattle.ch_laws_race.specs.Scene.{Party, hosts_of, host_of, link_of}
+use Rattle.ch_laws_race.specs.Scene.{Party, host_of, link_of}
 use Rattle.ch_laws_race.specs.Sound.{HasEnd}
 use Rattle.ch_laws_reads.specs.Reads.{IsKept, Reads, AllRead, reads_of}
 use Rattle.ch_laws_reads.proofs.HostEventsRead.{event_read}
@@ -52,10 +48,10 @@ use Rattle.ch_laws_places.specs.Said.{Piece, said_at}
 use Rattle.ch_laws_plain.proofs.ReadsAlone.{next_dials_none, ended_dials_none}
 use Rattle.ch_laws_scenes.proofs.Given.{host_is}
 use Rattle.ch_laws_peers.specs.Words.{Placed, words_in, waiting_as, placing, sayings, TrueWords}
-use Rattle.ch_laws_peers.specs.Says.{frames_towards, towards, IsUpOn, Says}
+use Rattle.ch_laws_peers.specs.Says.{frames_towards, IsUpOn, Says}
 use Rattle.ch_laws_peers.specs.Reads.{PlacedItem, items_in, placed_in, AreTruly}
 use Rattle.ch_laws_peers.specs.Standing.{Standing}
-use Rattle.ch_laws_way.specs.Goes.{pieced, Adds, written_frames, HostDoes, new_for, EndTurn, GoTruly}
+use Rattle.ch_laws_way.specs.Goes.{pieced, Adds, written_frames, HostDoes, new_for, GoTruly}
 use Rattle.ch_laws_way.specs.Natures.{AreBarePieces, flushed, Rises, Nature, Natures}
 use Rattle.ch_laws_way.proofs.Dues.{due_adds, bare_new, flushed_frames, flushed_behind}
 use Rattle.ch_laws_way.proofs.Lists.{truly_placed}

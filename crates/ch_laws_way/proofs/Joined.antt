@@ -1,5 +1,5 @@
 -- An opener's end is joined, and its request is written; and turns of nodes and of ends whose input has ended.
-use Rattle.std.proofs.Common.{◌≡◌, ◌⊎◌, inl, inr, ℕ, Bool, true, false, cond, List, [], ◌∷◌, ◌++◌, length, map, Ok, Err, refl, sym, ap, ◌∙◌, subst, append_assoc}
+use Rattle.std.proofs.Common.{◌≡◌, ◌⊎◌, inl, inr, ℕ, Bool, true, false, cond, List, [], ◌∷◌, ◌++◌, Ok, Err, refl, sym, ap, ◌∙◌, subst}
 use Rattle.std.proofs.lemmas.Bool.{and_parts}
 use Rattle.std.proofs.lemmas.List.{append-nil}
 use Rattle.std.specs.Prelude.{find, slice_get, slice_set, is_some, Option, Some, None, ◌==◌}
@@ -11,20 +11,16 @@ use Rattle.ch_reader.specs.declared.item.Item.TheVariants as items
 use Rattle.ch_model.specs.declared.entry.Entry.{Entry}
 use Rattle.ch_model.specs.declared.entry.Entry.TheVariants as entries
 use Rattle.ch_model.specs.declared.line.Line.{Line}
-use Rattle.ch_model.specs.declared.local.LocalEntry.TheVariants as local
 use Rattle.ch_model.specs.declared.name.End.{End}
-use Rattle.ch_model.specs.declared.name.End.TheVariants.{O, T}
+use Rattle.ch_model.specs.declared.name.End.TheVariants.{O}
 use Rattle.ch_model.specs.declared.name.SockName.{SockName}
 use Rattle.ch_model.specs.declared.step.SocketEvent.TheVariants as sockets
 use Rattle.ch_model.specs.declared.step.Step.{Step}
-use Rattle.ch_model.specs.declared.step.Step.TheVariants as steps
-use Rattle.ch_model.specs.AccountsFrames.{Saying}
 use Rattle.ch_model.specs.CellSteps.{told_steps}
 use Rattle.ch_model.specs.Host.{joins, host_on}
 use Rattle.ch_model.specs.HostState.{Socket, HostState}
 use Rattle.ch_model.specs.HostSteps.{Stepped, still, own_address, is_socket, with_socket}
 use Rattle.ch_model.specs.HostWrites.{writes}
-use Rattle.ch_model.specs.Same.{across, is_end_of}
 use Rattle.ch_model.specs.Sockets.{writings}
 use Rattle.ch_model.specs.Stages.{Stage, Pending, Open, Ended, is_pending, is_ended}
 use Rattle.ch_model.specs.WorldHappenings.{with_cell}
@@ -34,7 +30,7 @@ use Rattle.ch_model.specs.WorldState.{Cell, WorldSocket, World}
 use Rattle.ch_race.specs.Pair.{Side, other}
 use Rattle.ch_laws_bytes.specs.Streams.{MayAsk}
 use Rattle.ch_laws_bytes.proofs.Lines.{own_of}
-use Rattle.ch_laws_calls.specs.Calls.{with_host, done_at, IsCalled, IsIn, joined_in}
+use Rattle.ch_laws_calls.specs.Calls.{with_host, done_at, IsIn, joined_in}
 use Rattle.ch_laws_ends.proofs.Changes.{cells_stay, told_cells}
 use Rattle.ch_laws_ends.proofs.Found.{EachFound, each_kept}
 use Rattle.ch_laws_ends.proofs.Known.{Sorted, keeps_sorted}
@@ -59,7 +55,7 @@ use Rattle.ch_laws_peers.specs.Words.{Placed, sayings}
 use Rattle.ch_laws_peers.specs.Says.{Says}
 use Rattle.ch_laws_peers.specs.Reads.{PlacedItem, items_in, placed_in, AreTruly}
 use Rattle.ch_laws_peers.specs.Standing.{Standing}
-use Rattle.ch_laws_way.specs.Goes.{pieced, Adds, written_frames, HostDoes, new_for, EndTurn, AllTurn, GoTruly}
+use Rattle.ch_laws_way.specs.Goes.{pieced, Adds, written_frames, HostDoes, AllTurn, GoTruly}
 use Rattle.ch_laws_way.proofs.Dues.{due_adds}
 use Rattle.ch_laws_way.proofs.Items.{new_cases, may_ask}
 use Rattle.ch_laws_way.proofs.Pairs.{wrote_true, truly_bare}

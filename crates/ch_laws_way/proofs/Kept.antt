@@ -1,8 +1,7 @@
 -- What is under way between two nodes is kept by each turn, and nothing is where nothing has happened.
-use Rattle.std.proofs.Common.{◌≡◌, ◌⊎◌, inl, inr, ◌≤◌, arith, ℕ, ◌+◌, ◌*◌, Bool, true, false, cond, List, [], ◌∷◌, ◌++◌, take, Ok, Err, refl, sym, ap, ◌∙◌, subst}
-use Rattle.std.specs.Prelude.{find, length, slice_get, Option, Some, None, Result}
+use Rattle.std.proofs.Common.{◌≡◌, ◌⊎◌, inl, inr, ◌≤◌, arith, ℕ, ◌+◌, ◌*◌, true, List, [], ◌∷◌, ◌++◌, take, Ok, Err, refl, sym, ap, ◌∙◌, subst}
+use Rattle.std.specs.Prelude.{find, length, slice_get, Option, Some, None}
 use Rattle.ch_base.specs.declared.address.Address.{Address}
-use Rattle.ch_static.specs.declared.command.Command.{Command}
 use Rattle.ch_link.specs.declared.LinkState.{LinkState}
 use Rattle.ch_link.specs.declared.LinkState.TheVariants as states
 use Rattle.ch_model.specs.declared.act.Act.{Act}
@@ -11,40 +10,35 @@ use Rattle.ch_model.specs.declared.entry.Entry.{Entry}
 use Rattle.ch_model.specs.declared.entry.Entry.TheVariants as entries
 use Rattle.ch_model.specs.declared.entry.Verdict.{Verdict}
 use Rattle.ch_model.specs.declared.line.Line.{Line}
-use Rattle.ch_model.specs.declared.line.What.{What}
 use Rattle.ch_model.specs.declared.local.LocalEntry.{LocalEntry}
 use Rattle.ch_model.specs.declared.name.End.{End}
-use Rattle.ch_model.specs.declared.name.ProcName.{ProcName}
 use Rattle.ch_model.specs.declared.name.SockName.{SockName}
 use Rattle.ch_model.specs.declared.note.Note.{Note}
 use Rattle.ch_model.specs.declared.step.SocketEvent.TheVariants as sockets
 use Rattle.ch_model.specs.declared.step.Step.{Step}
 use Rattle.ch_model.specs.declared.step.Step.TheVariants as steps
-use Rattle.ch_model.specs.Cell.{room_for}
 use Rattle.ch_model.specs.CellSteps.{Followed, is_at, with_node, acts_on, steps_on}
 use Rattle.ch_model.specs.Host.{host_next}
 use Rattle.ch_model.specs.HostState.{Socket, HostState}
 use Rattle.ch_model.specs.HostSteps.{is_socket}
-use Rattle.ch_model.specs.Node.{node_make, node_command, target_node}
+use Rattle.ch_model.specs.Node.{node_make}
 use Rattle.ch_model.specs.NodeState.{NodeState}
-use Rattle.ch_model.specs.Same.{is_end_of}
 use Rattle.ch_model.specs.Sockets.{writings}
 use Rattle.ch_model.specs.World.{world_new}
 use Rattle.ch_model.specs.WorldHappenings.{with_cell}
 use Rattle.ch_model.specs.WorldLines.{can_join, can_come, can_feed}
 use Rattle.ch_model.specs.WorldSockets.{end_of, is_socket_named}
 use Rattle.ch_model.specs.WorldState.{Cell, WorldSocket, World}
-use Rattle.ch_model.specs.WorldSteps.{all_told}
 use Rattle.ch_race.specs.Pair.{Side, other}
 use Rattle.ch_laws_bytes.proofs.Lines.{own_of}
-use Rattle.ch_laws_calls.specs.Calls.{Both, with_host, done_at, IsCalled, IsHeldBy, IsIn, AllRead, joined_in, come_in, fed_in}
-use Rattle.ch_laws_calls.specs.Scenes.{IsPairOf, scene_of}
+use Rattle.ch_laws_calls.specs.Calls.{Both, with_host, done_at, IsCalled, IsHeldBy, IsIn, joined_in, come_in, fed_in}
+use Rattle.ch_laws_calls.specs.Scenes.{scene_of}
 use Rattle.ch_laws_ends.proofs.Changes.{told_cells}
 use Rattle.ch_laws_ends.proofs.Places.{got_same}
 use Rattle.ch_laws_log.specs.HostEnds.{IsSound, steps_in}
 use Rattle.ch_laws_race.specs.Chains.{unposted}
 use Rattle.ch_laws_race.specs.Scene.{Party, link_of}
-use Rattle.ch_laws_reads.specs.Reads.{IsFresh, IsKept, Reads}
+use Rattle.ch_laws_reads.specs.Reads.{IsFresh, IsKept}
 use Rattle.ch_laws_writes.specs.Dues.{due_at}
 use Rattle.ch_laws_writes.specs.Orderly.{IsOrderly}
 use Rattle.ch_laws_fits.specs.Fit.{MayAskWell}
@@ -53,19 +47,19 @@ use Rattle.ch_laws_fits.proofs.Stores.{none_kind}
 use Rattle.ch_laws_plain_nodes.specs.Does.{Makes}
 use Rattle.ch_laws_plain_nodes.proofs.Calls.{makes}
 use Rattle.ch_laws_plain_nodes.proofs.Steps.{given_so}
-use Rattle.ch_laws_turns.specs.Turns.{told_on, IsAsked, end_in, KeepsTurns}
+use Rattle.ch_laws_turns.specs.Turns.{told_on, KeepsTurns}
 use Rattle.ch_laws_peers.specs.Words.{sayings}
 use Rattle.ch_laws_peers.specs.Says.{towards, Says, AllSay}
-use Rattle.ch_laws_peers.specs.Reads.{reads_from, reads, PlacedItem, placed_in, AreTruly, Comes, AllCome}
+use Rattle.ch_laws_peers.specs.Reads.{reads_from, reads, PlacedItem, placed_in, AreTruly, AllCome}
 use Rattle.ch_laws_peers.specs.Standing.{IsOfNodes, Standing}
 use Rattle.ch_laws_way.specs.Asked.{AskedTruly, AsksTruly}
-use Rattle.ch_laws_way.specs.Goes.{written_frames, HostDoes, new_for, EndTurn, EndOpens, AllTurn, OnWay, GoTruly, Turns}
+use Rattle.ch_laws_way.specs.Goes.{written_frames, HostDoes, EndTurn, EndOpens, AllTurn, GoTruly, Turns}
 use Rattle.ch_laws_way.specs.Hears.{OnlySteps, HearsAlone}
 use Rattle.ch_laws_way.proofs.Asks.{peers_may_ask}
 use Rattle.ch_laws_way.proofs.Come.{comes_by}
 use Rattle.ch_laws_way.proofs.Dialed.{dial_turns}
 use Rattle.ch_laws_way.proofs.Handed.{came_turns, fed_turns}
-use Rattle.ch_laws_way.proofs.Items.{Reading, next_reading, ended_reading, new_in, alone_in, reading_does, new_cases, ReadTurn, read_truly}
+use Rattle.ch_laws_way.proofs.Items.{Reading, next_reading, ended_reading, new_in, alone_in, reading_does, new_cases, read_truly}
 use Rattle.ch_laws_way.proofs.Joined.{Joining, joining, new_joined, joining_does, joined_turns, joined_truly}
 use Rattle.ch_laws_way.proofs.Pairs.{wrote_true, truly_bare}
 use Rattle.ch_laws_way.proofs.Rests.{none_new, rest_truly, told_turns}
@@ -118,8 +112,8 @@ note_told end note cell told after e = record { none = sym (ap told_of e); same 
 
 -- ---- each turn
 
-pub marked_goes : (journal : List Line) (log : List Entry) (world : World) (number : ℕ) (answer : Verdict) → Given journal log world → Turns journal log world (log ++ entries.Line number answer ∷ []) world
-marked_goes journal log world number answer g = record { place = 0; told = []; new = none_new; all = told_turns log world (entries.Line number answer) (λ s e. refl); truly = λ party pair x. rest_truly journal log world (entries.Line number answer ∷ []) world party x (g.1 party pair x) }
+pub marked_goes : (journal : List Line) (log : List Entry) (world : World) (number : ℕ) (answer : Verdict) → Given journal log world → (t : Turns journal log world (log ++ entries.Line number answer ∷ []) world) × (t.told ≡ [])
+marked_goes journal log world number answer g = (record { place = 0; told = []; new = none_new; all = told_turns log world (entries.Line number answer) (λ s e. refl); truly = λ party pair x. rest_truly journal log world (entries.Line number answer ∷ []) world party x (g.1 party pair x) }, refl)
 
 pub made_goes : (journal : List Line) → IsOfNodes journal → (log : List Entry) (world : World) (place : ℕ) (cell : Cell × ℕ) (end number : ℕ) (node : NodeState) (acts : List Act) (next : NodeState) (told : List LocalEntry) (after : Cell) → slice_get world.cells place ≡ Some cell → find (is_at end) cell.0.nodes ≡ Some (number, node) → node_make node ≡ Ok (acts, next)
     → acts_on end acts (with_node end next cell.0) ≡ Ok (told, after) → Given journal log world → let done = told_on place cell after told world in (t : Turns journal log world (log ++ done.0) done.1) × (t.told ≡ [])
@@ -165,12 +159,12 @@ joined_goes journal j log world socket place n cell told host is can c g = (
   join = joining (own_of journal place) cell.0.host host n told (orderly journal log world place cell g.0 c.at) c.does
 
 pub came_goes : (journal : List Line) (log : List Entry) (world : World) (socket : WorldSocket) (place : ℕ) (cell : Cell × ℕ) (steps : List Step) (host : HostState) → IsIn socket world → can_come socket ≡ true → socket.t.cell ≡ Some place → IsCalled world place cell (sockets.Came (2 * cell.1 + 1) socket.from_host) steps host → Given journal log world
-    → let done = done_at place (cell.0, cell.1 + 1) steps host (come_in place cell socket world) in Turns journal log world (log ++ entries.Came socket.name ∷ done.0) done.1
-came_goes journal log world socket place cell told host is can at_cell c g = record { place = 0; told = []; new = none_new; all = came_turns journal log world socket place cell told host is can at_cell c g.0.all.sound; truly = λ party pair x. rest_truly journal log world _ _ party x (g.1 party pair x) }
+    → let done = done_at place (cell.0, cell.1 + 1) steps host (come_in place cell socket world) in (t : Turns journal log world (log ++ entries.Came socket.name ∷ done.0) done.1) × (t.told ≡ [])
+came_goes journal log world socket place cell told host is can at_cell c g = (record { place = 0; told = []; new = none_new; all = came_turns journal log world socket place cell told host is can at_cell c g.0.all.sound; truly = λ party pair x. rest_truly journal log world _ _ party x (g.1 party pair x) }, refl)
 
 pub fed_goes : (journal : List Line) (log : List Entry) (world : World) (socket : WorldSocket) (which : End) (count b : ℕ) (bytes : List ℕ) (place n : ℕ) (cell : Cell × ℕ) (steps : List Step) (host : HostState) → IsIn socket world → can_feed which socket ≡ true → take count (end_of which socket).unread ≡ b ∷ bytes → IsHeldBy place n (end_of which socket)
-    → IsCalled world place cell (sockets.Fed n (b ∷ bytes)) steps host → Given journal log world → let done = done_at place cell steps host (fed_in which count socket world) in Turns journal log world (log ++ entries.Fed socket.name which (length (b ∷ bytes)) ∷ done.0) done.1
-fed_goes journal log world socket which count b bytes place n cell told host is can taken held c g = record { place = 0; told = []; new = none_new; all = fed_turns journal log world socket which count b bytes place n cell told host is can taken held c g.0.all.sound; truly = λ party pair x. rest_truly journal log world _ _ party x (g.1 party pair x) }
+    → IsCalled world place cell (sockets.Fed n (b ∷ bytes)) steps host → Given journal log world → let done = done_at place cell steps host (fed_in which count socket world) in (t : Turns journal log world (log ++ entries.Fed socket.name which (length (b ∷ bytes)) ∷ done.0) done.1) × (t.told ≡ [])
+fed_goes journal log world socket which count b bytes place n cell told host is can taken held c g = (record { place = 0; told = []; new = none_new; all = fed_turns journal log world socket which count b bytes place n cell told host is can taken held c g.0.all.sound; truly = λ party pair x. rest_truly journal log world _ _ party x (g.1 party pair x) }, refl)
 
 -- a turn in which a host reads, and its nodes only note what they hear
 reading_goes : (journal : List Line) → IsOfNodes journal → (log : List Entry) (world : World) (place : ℕ) (cell : Cell × ℕ) (steps : List Step) (host : HostState) (told : List LocalEntry) (after : Cell) (r : Reading (own_of journal place) cell.0.host steps host) → slice_get world.cells place ≡ Some cell → OnlySteps steps host told after → Given journal log world
@@ -245,12 +239,12 @@ come_then journal log world after_log after t j q party pair x = comes_by journa
 
 pub come_kept : (journal : List Line) → IsOfNodes journal → HearsAlone journal → AsksTruly journal → KeepsTurns journal (Both (Standing journal) (AllSay journal)) (Both (Standing journal) (AllSay journal)) (AllCome journal)
 come_kept journal n hears asks = record {
-  marked = λ log world number what answer found of p j q. come_then journal log world _ _ (marked_goes journal log world number answer p) j q;
+  marked = λ log world number what answer found of p j q. come_then journal log world _ _ (marked_goes journal log world number answer p).0 j q;
   made = λ log world place cell end number node acts next told after at there does all p j q. come_then journal log world _ _ (made_goes journal n log world place cell end number node acts next told after at there does all p).0 j q;
   asked = λ log world what by command place cell number node acts next told after line at there does all p j q. come_then journal log world _ _ (asked_goes journal n log world place cell told after at p (asks.asked log world what by command place cell number node acts next told after line at there does all p q)).0 j q;
   joined = λ log world socket place number cell steps host is can held called read p j q. come_then journal log world _ _ (joined_goes journal n log world socket place number cell steps host is can called p).0 j q;
-  came = λ log world socket place cell steps host is can at called read p j q. come_then journal log world _ _ (came_goes journal log world socket place cell steps host is can at called p) j q;
-  fed = λ log world socket which count b bytes place number cell steps host is can taken held called read p j q. come_then journal log world _ _ (fed_goes journal log world socket which count b bytes place number cell steps host is can taken held called p) j q;
+  came = λ log world socket place cell steps host is can at called read p j q. come_then journal log world _ _ (came_goes journal log world socket place cell steps host is can at called p).0 j q;
+  fed = λ log world socket which count b bytes place number cell steps host is can taken held called read p j q. come_then journal log world _ _ (fed_goes journal log world socket which count b bytes place number cell steps host is can taken held called p).0 j q;
   ended = λ log world socket which place number cell steps host told after is can none held called all read p j q. come_then journal log world _ _ (ended_goes journal n hears log world socket.name which place number cell steps host told after called all p q).0 j q;
   item = λ log world place cell steps host told after at does all p j q. come_then journal log world _ _ (item_goes journal n hears log world place cell steps host told after at does all p q).0 j q;
 }

@@ -17,3 +17,5 @@ pub mod Dialed
 pub mod Kept
 pub mod Blind
 pub mod Counts
+pub mod ReadOn
+pub mod Reading

@@ -1,6 +1,5 @@
 -- Frames with the places that sayings give them, when more is said and more is written.
-use Rattle.std.proofs.Common.{◌≡◌, ℕ, zero, suc, Bool, true, false, List, [], ◌∷◌, ◌++◌, refl, sym, ap, ◌∙◌, subst, append_assoc}
-use Rattle.std.proofs.lemmas.List.{append-nil}
+use Rattle.std.proofs.Common.{◌≡◌, ℕ, zero, suc, List, [], ◌∷◌, ◌++◌, refl, sym, ap, ◌∙◌}
 use Rattle.std.specs.Prelude.{slice_get, Option, Some, None}
 use Rattle.ch_wire.specs.declared.frame.Frame.{Frame}
 use Rattle.ch_wire.specs.declared.frame.Frame.TheVariants as frames
@@ -10,7 +9,7 @@ use Rattle.ch_model.specs.AccountsFrames.{Saying}
 use Rattle.ch_model.specs.AccountsItems.{first_payload}
 use Rattle.ch_laws_peers.specs.Words.{Placed, Word, words_in, place_of, place_next, carried_after, placing, TrueWord, TrueWords}
 use Rattle.ch_laws_peers.specs.Says.{ArePlaced}
-use Rattle.ch_laws_peers.specs.Reads.{frames_among, AreTruly}
+use Rattle.ch_laws_peers.specs.Reads.{frames_among}
 
 -- ---- frames behind frames
 

@@ -1,10 +1,9 @@
 -- What a host writes as it reads an item, or as the input of a socket ends.
-use Rattle.std.proofs.Common.{◌≡◌, ◌⊎◌, inl, inr, ℕ, ◌+◌, Bool, true, false, cond, List, [], ◌∷◌, ◌++◌, map, drop, Ok, Err, refl, sym, ap, ◌∙◌, subst}
+use Rattle.std.proofs.Common.{◌≡◌, ◌⊎◌, inl, inr, ℕ, Bool, true, false, cond, List, [], ◌∷◌, map, drop, Ok, Err, refl, sym, ap, ◌∙◌, subst}
 use Rattle.std.proofs.lemmas.Bool.{and_parts}
 use Rattle.std.specs.Prelude.{find, Option, Some, None, Result, nat_lt, ◌==◌}
 use Rattle.ch_base.specs.declared.address.Address.{Address}
 use Rattle.ch_base.specs.declared.event.Event.TheVariants as events
-use Rattle.ch_base.specs.declared.memory.Stop.{Stop}
 use Rattle.ch_base.specs.declared.memory.Stop.TheVariants as stops
 use Rattle.ch_wire.specs.Spelling.{answer_spelling, frame_spelling}
 use Rattle.ch_wire.specs.declared.answer.Answer.{Answer}
@@ -28,13 +27,12 @@ use Rattle.ch_link.specs.declared.LinkIn.{LinkIn}
 use Rattle.ch_link.specs.declared.LinkIn.TheVariants as inputs
 use Rattle.ch_link.specs.declared.LinkState.{LinkState}
 use Rattle.ch_link.specs.declared.LinkState.TheVariants as states
-use Rattle.ch_model.specs.declared.step.Place.{Place}
 use Rattle.ch_model.specs.declared.step.SocketEvent.TheVariants as sockets
 use Rattle.ch_model.specs.declared.step.Step.{Step}
 use Rattle.ch_model.specs.declared.step.Step.TheVariants as steps
 use Rattle.ch_model.specs.declared.step.Weight.{Weight}
 use Rattle.ch_model.specs.Greater.{is_greater}
-use Rattle.ch_model.specs.Host.{front_of, is_ready_front, first_ready, takes, handles, some_steps, host_on, host_next}
+use Rattle.ch_model.specs.Host.{front_of, is_ready_front, first_ready, takes, handles, host_on, host_next}
 use Rattle.ch_model.specs.HostItems.{most_arrived, posts, gone_from, is_gone, refusal_of, asks_link, reads_request, heard_answer, arrived_at, with_arrival, next_arrival, arrives, closes, receives, reads_frame, reads_on, reads}
 use Rattle.ch_model.specs.HostLinks.{does_act, hears}
 use Rattle.ch_model.specs.HostState.{Link, Socket, HostState}
@@ -49,14 +47,13 @@ use Rattle.ch_laws_log.specs.HostEnds.{IsSound}
 use Rattle.ch_laws_log.proofs.Stored.{number_is}
 use Rattle.ch_laws_writes.specs.Dues.{Due, Answering, Framing, due_of, due_staged, due_open, due_at}
 use Rattle.ch_laws_writes.specs.Orderly.{link_at}
-use Rattle.ch_laws_writes.proofs.Ordered.{at_stored}
 use Rattle.ch_laws_fits.proofs.Halves.{MayHear}
-use Rattle.ch_laws_fits.proofs.Stores.{Stores, stored, stored_again}
+use Rattle.ch_laws_fits.proofs.Stores.{Stores, stored_again}
 use Rattle.ch_laws_links.proofs.Keys.{ended_rest}
 use Rattle.ch_laws_places.specs.Said.{Piece, said_at}
 use Rattle.ch_laws_plain.proofs.ReadsBrought.{own_key as of_host}
 use Rattle.ch_laws_plain.proofs.ReadsTurns.{next_done}
-use Rattle.ch_laws_way.specs.Natures.{IsBarePiece, AreBarePieces, flushed, Rises, Nature, Natures, AllNatures}
+use Rattle.ch_laws_way.specs.Natures.{IsBarePiece, AreBarePieces, flushed, Nature, Natures, AllNatures}
 
 -- ---- links that are kept
 

@@ -1,10 +1,10 @@
 -- The ends of the sockets between two nodes, and what one has written on them towards the other.
-use Rattle.std.proofs.Common.{◌≡◌, ◌⊎◌, inl, inr, ℕ, zero, suc, Bool, true, false, cond, ◌&&◌, ◌||◌, List, [], ◌∷◌, ◌++◌, map, drop, filter_map, refl, sym, ap, ◌∙◌, subst}
+use Rattle.std.proofs.Common.{◌≡◌, ◌⊎◌, inl, inr, ℕ, zero, suc, Bool, true, false, cond, ◌&&◌, ◌||◌, List, [], ◌∷◌, ◌++◌, refl, sym, ap, ◌∙◌, subst}
 use Rattle.std.proofs.lemmas.Bool.{and_parts}
-use Rattle.std.proofs.lemmas.List.{append-nil, map-append}
+use Rattle.std.proofs.lemmas.List.{map-append}
 use Rattle.std.proofs.lemmas.List.Elements.{filter_map-append}
 use Rattle.std.proofs.lemmas.Slice.Eq.{bytes_eq-Decides}
-use Rattle.std.specs.Prelude.{find, slice_get, is_some, Option, Some, None}
+use Rattle.std.specs.Prelude.{find, slice_get, is_some, Some}
 use Rattle.std.specs.Str.{bytes_eq}
 use Rattle.ch_wire.specs.declared.frame.Frame.{Frame}
 use Rattle.ch_model.specs.declared.entry.Entry.{Entry}
@@ -13,10 +13,9 @@ use Rattle.ch_model.specs.declared.name.End.{End}
 use Rattle.ch_model.specs.declared.name.End.TheVariants.{O, T}
 use Rattle.ch_model.specs.declared.name.SockName.{SockName}
 use Rattle.ch_model.specs.AccountsFrames.{Saying}
-use Rattle.ch_model.specs.AccountsItems.{frame_of, frames_of}
+use Rattle.ch_model.specs.AccountsItems.{frames_of}
 use Rattle.ch_model.specs.Same.{is_between, owner, across, is_end_of}
 use Rattle.ch_model.specs.Sockets.{writings}
-use Rattle.ch_model.specs.WorldSockets as ends
 use Rattle.ch_model.specs.WorldSockets.{end_of, is_socket_named}
 use Rattle.ch_model.specs.WorldState.{WorldSocket, World}
 use Rattle.ch_race.specs.Pair.{Side, Lesser, Greater, other}
@@ -31,7 +30,7 @@ use Rattle.ch_laws_peers.specs.Says.{frames_towards, towards, ArePlaced, Says}
 use Rattle.ch_laws_peers.specs.Reads.{frames_among, AreTruly}
 use Rattle.ch_laws_plain_logs.specs.Plain.{said_by}
 use Rattle.ch_laws_way.specs.Goes.{written_frames}
-use Rattle.ch_laws_way.proofs.Lists.{datas_behind, count_behind, placing_append, truly_placed, true_first, AreBare, bare_placed, placed_all, frames_placed}
+use Rattle.ch_laws_way.proofs.Lists.{datas_behind, count_behind, placing_append, truly_placed, true_first, AreBare, bare_placed, placed_all}
 
 -- ---- an end of x
 

@@ -1,18 +1,15 @@
 -- Turns in which nothing is read or written: what was written towards each end is as it was.
-use Rattle.std.proofs.Common.{◌≡◌, ◌⊎◌, inl, inr, ℕ, Bool, true, false, cond, List, [], ◌∷◌, ◌++◌, length, refl, sym, ap, ◌∙◌, subst}
+use Rattle.std.proofs.Common.{◌≡◌, inl, ℕ, Bool, true, false, cond, List, [], ◌∷◌, ◌++◌, refl, sym, ap, ◌∙◌, subst}
 use Rattle.std.proofs.lemmas.List.{append-nil}
 use Rattle.std.proofs.lemmas.List.Elements.{filter_map-append}
 use Rattle.std.specs.Prelude.{find, Option, Some, None, ◌==◌}
-use Rattle.ch_reader.specs.declared.item.Expected.{Expected}
 use Rattle.ch_model.specs.declared.entry.Entry.{Entry}
 use Rattle.ch_model.specs.declared.line.Line.{Line}
 use Rattle.ch_model.specs.declared.name.End.{End}
-use Rattle.ch_model.specs.declared.name.End.TheVariants.{O, T}
 use Rattle.ch_model.specs.declared.name.SockName.{SockName}
 use Rattle.ch_model.specs.declared.step.Place.{Place}
-use Rattle.ch_model.specs.declared.step.Step.{Step}
 use Rattle.ch_model.specs.AccountsFrames.{Saying}
-use Rattle.ch_model.specs.Same.{across, is_end_of}
+use Rattle.ch_model.specs.Same.{across}
 use Rattle.ch_model.specs.Sockets.{writings}
 use Rattle.ch_model.specs.WorldSockets.{end_of, is_socket_named}
 use Rattle.ch_model.specs.WorldState.{WorldSocket, World}
@@ -20,10 +17,10 @@ use Rattle.ch_race.specs.Pair.{Side, other}
 use Rattle.ch_laws_bytes.specs.Streams.{Reader, reader_of, first_at, is_over}
 use Rattle.ch_laws_race.specs.Scene.{Party}
 use Rattle.ch_laws_places.proofs.Sockets.{reads_for}
-use Rattle.ch_laws_peers.specs.Words.{Placed, sayings}
+use Rattle.ch_laws_peers.specs.Words.{sayings}
 use Rattle.ch_laws_peers.specs.Says.{Says}
-use Rattle.ch_laws_peers.specs.Reads.{PlacedItem, placed_in, AreTruly, Way, IsWay}
-use Rattle.ch_laws_way.specs.Goes.{written_frames, IsGoing, GoesOn, new_for, EndTurn, AllTurn, GoTruly}
+use Rattle.ch_laws_peers.specs.Reads.{PlacedItem, placed_in, AreTruly, IsWay}
+use Rattle.ch_laws_way.specs.Goes.{written_frames, IsGoing, new_for, EndTurn, AllTurn, GoTruly}
 use Rattle.ch_laws_way.proofs.Items.{new_cases}
 use Rattle.ch_laws_way.proofs.Pairs.{wrote_true, truly_bare}
 use Rattle.ch_laws_way.proofs.Ways.{way_frames}

@@ -19,10 +19,10 @@ use Rattle.ch_model.specs.declared.step.Step.{Step}
 use Rattle.ch_model.specs.declared.step.Step.TheVariants as steps
 use Rattle.ch_model.specs.Naming.{Names}
 use Rattle.ch_model.specs.Same.{same_socket, same_end}
-use Rattle.ch_model.specs.Sockets.{writing, writings}
+use Rattle.ch_model.specs.Sockets.{writings}
 use Rattle.ch_model.specs.WorldSockets.{end_of, other, item_arrives, is_socket_named, with_end_of, same_number, is_end_of, find_end}
 use Rattle.ch_model.specs.WorldState.{Cell, WorldEnd, WorldSocket, World}
-use Rattle.ch_model.specs.WorldSteps.{note_entry, noted, on_end, reads_item, end_closes, stepped, local_told, all_told}
+use Rattle.ch_model.specs.WorldSteps.{note_entry, noted, on_end, reads_item, end_closes, stepped, all_told}
 use Rattle.ch_laws_bytes.proofs.Sockets.{flip, not_found}
 use Rattle.ch_laws_ends.proofs.Changes.{OnDial, step_as}
 use Rattle.ch_laws_ends.proofs.Found.{EachFound, each_kept}

@@ -1,5 +1,5 @@
 -- A turn of a cell, with all that it told: what was written towards each end goes on.
-use Rattle.std.proofs.Common.{◌≡◌, ◌⊎◌, inl, inr, ℕ, Bool, true, false, cond, List, [], ◌∷◌, ◌++◌, length, map, refl, sym, ap, ◌∙◌, subst}
+use Rattle.std.proofs.Common.{◌≡◌, ◌⊎◌, inl, inr, ℕ, Bool, true, false, cond, List, [], ◌++◌, map, refl, sym, ap, ◌∙◌, subst}
 use Rattle.std.proofs.lemmas.List.{append-nil}
 use Rattle.std.specs.Prelude.{find, slice_get, slice_set, Option, Some, None, ◌==◌}
 use Rattle.ch_base.specs.declared.address.Address.{Address}
@@ -13,7 +13,7 @@ use Rattle.ch_model.specs.declared.name.SockName.{SockName}
 use Rattle.ch_model.specs.declared.step.Step.{Step}
 use Rattle.ch_model.specs.AccountsFrames.{Saying}
 use Rattle.ch_model.specs.CellSteps.{told_steps}
-use Rattle.ch_model.specs.HostState.{Socket, HostState}
+use Rattle.ch_model.specs.HostState.{Socket}
 use Rattle.ch_model.specs.HostSteps.{is_socket}
 use Rattle.ch_model.specs.Same.{across, is_end_of}
 use Rattle.ch_model.specs.Sockets.{writings}
@@ -24,12 +24,11 @@ use Rattle.ch_model.specs.WorldSockets.{end_of, is_socket_named}
 use Rattle.ch_model.specs.WorldState.{Cell, WorldSocket, World}
 use Rattle.ch_model.specs.WorldSteps.{all_told}
 use Rattle.ch_laws_bytes.specs.Streams.{Reader, reader_in, reader_at, readers_of, due_in, dues_of, reads_at, writes_at, first_at, reader_of, due_of_end, is_over}
-use Rattle.ch_laws_bytes.proofs.Event.{Flowing, set_at}
+use Rattle.ch_laws_bytes.proofs.Event.{set_at}
 use Rattle.ch_laws_bytes.proofs.Lines.{own_of}
 use Rattle.ch_laws_bytes.proofs.Sockets.{flip}
 use Rattle.ch_laws_calls.specs.Sound.{Sound}
 use Rattle.ch_laws_ends.proofs.Changes.{told_cells}
-use Rattle.ch_laws_ends.proofs.Found.{EachFound}
 use Rattle.ch_laws_ends.proofs.Known.{Sorted, keeps_sorted}
 use Rattle.ch_laws_ends.proofs.Told.{Sure}
 use Rattle.ch_laws_log.specs.HostEnds.{steps_in}
@@ -43,7 +42,7 @@ use Rattle.ch_laws_fits.specs.Turns.{NoDials}
 use Rattle.ch_laws_fits.proofs.Ends.{own_by, FlowsThere, flows_there}
 use Rattle.ch_laws_fits.proofs.Stores.{none_kind}
 use Rattle.ch_laws_fits.proofs.Told.{end_kept}
-use Rattle.ch_laws_places.specs.Said.{Piece, said_at, bytes_in}
+use Rattle.ch_laws_places.specs.Said.{Piece, said_at}
 use Rattle.ch_laws_places.proofs.Ends.{ReaderReads, IsKnown}
 use Rattle.ch_laws_places.proofs.Sockets.{pieces_for, reads_for, pieces_of, reads_at_end, WasThere, told_goes}
 use Rattle.ch_laws_plain.proofs.Worlds.{steps_same}

@@ -1,10 +1,8 @@
 -- Where both of two nodes are up, they are up on one socket; and which end of a socket a node is up on.
 use Rattle.std.proofs.Common.{◌≡◌, ◌≢◌, ◌⊎◌, inl, inr, ℕ, Bool, true, false, cond, ◌&&◌, ◌||◌, List, [], refl, sym, ap, ◌∙◌, subst}
-use Rattle.std.proofs.lemmas.Bool.{and_parts}
 use Rattle.std.proofs.lemmas.Slice.Eq.{bytes_eq-Decides}
 use Rattle.std.specs.Prelude.{find, slice_get, nat_eq, Option, Some, None}
 use Rattle.std.specs.Str.{bytes_eq}
-use Rattle.ch_base.specs.declared.address.Address.{Address}
 use Rattle.ch_reader.specs.declared.item.Expected.{Expected}
 use Rattle.ch_reader.specs.declared.item.Expected.TheVariants as expected
 use Rattle.ch_link.specs.Sockets.{names}
@@ -18,7 +16,7 @@ use Rattle.ch_model.specs.declared.name.SockName.{SockName}
 use Rattle.ch_model.specs.HostState.{Socket, HostState}
 use Rattle.ch_model.specs.HostSteps.{link_with, is_socket}
 use Rattle.ch_model.specs.HostWrites.{is_up}
-use Rattle.ch_model.specs.Same.{is_between, owner, across, is_end_of}
+use Rattle.ch_model.specs.Same.{across, is_end_of}
 use Rattle.ch_model.specs.Stages.{Stage, Pending, Open, Ended, is_ended}
 use Rattle.ch_model.specs.WorldSockets.{end_of, is_socket_named, find_end}
 use Rattle.ch_model.specs.WorldState.{Cell, WorldEnd, WorldSocket, World}

@@ -1,5 +1,5 @@
 -- What a turn adds to what was written towards an end, and what it reads there.
-use Rattle.std.specs.Prelude.{◌≡◌, ◌⊎◌, ℕ, cond, true, false, ◌==◌, List, [], ◌∷◌, ◌++◌, drop, filter_map, find, length, map, Option, Some, None}
+use Rattle.std.specs.Prelude.{◌≡◌, ◌⊎◌, ℕ, cond, true, false, ◌==◌, List, [], ◌++◌, drop, filter_map, find, length, map, Option, Some, None}
 use Rattle.ch_base.specs.declared.address.Address.{Address}
 use Rattle.ch_reader.specs.Items.{item_spelling}
 use Rattle.ch_reader.specs.declared.item.Expected.{Expected}

@@ -1,5 +1,5 @@
 -- That nodes only note what they hear: all steps that are told of a turn are their host's.
-use Rattle.std.specs.Prelude.{◌≡◌, ℕ, true, List, [], find, slice_get, Some, Ok}
+use Rattle.std.specs.Prelude.{◌≡◌, ℕ, List, slice_get, Some, Ok}
 use Rattle.ch_model.specs.declared.entry.Entry.{Entry}
 use Rattle.ch_model.specs.declared.line.Line.{Line}
 use Rattle.ch_model.specs.declared.local.LocalEntry.{LocalEntry}

@@ -1,5 +1,5 @@
 -- What a host writes as it reads: answers, probes and acknowledgements alone, or all that waited for a link that comes up.
-use Rattle.std.specs.Prelude.{◌≡◌, ◌⊎◌, ℕ, Bool, false, List, [], ◌∷◌, ◌++◌, map, Option, Some, None, Result, Ok, Err}
+use Rattle.std.specs.Prelude.{◌≡◌, ◌⊎◌, ℕ, false, List, [], ◌∷◌, map, Option, Some, None, Ok, Err}
 use Rattle.ch_base.specs.declared.address.Address.{Address}
 use Rattle.ch_wire.specs.Spelling.{IsFrame, answer_spelling, frame_spelling}
 use Rattle.ch_wire.specs.declared.answer.Answer.{Answer}
@@ -9,7 +9,7 @@ use Rattle.ch_wire.specs.declared.frame.Frame.TheVariants as frames
 use Rattle.ch_link.specs.declared.LinkState.TheVariants.{Up}
 use Rattle.ch_model.specs.declared.step.Step.{Step}
 use Rattle.ch_model.specs.declared.step.Weight.{Weight}
-use Rattle.ch_model.specs.HostState.{Link, HostState}
+use Rattle.ch_model.specs.HostState.{Link}
 use Rattle.ch_model.specs.HostSteps.{Stepped}
 use Rattle.ch_model.specs.HostWrites.{said_of, is_up}
 use Rattle.ch_laws_writes.specs.Dues.{Due, Answering, Framing}
