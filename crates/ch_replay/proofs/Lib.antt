@@ -1,4 +1,3 @@
-pub mod Orderly
 pub mod Cuts
 pub mod Turns
 pub mod LinesRead

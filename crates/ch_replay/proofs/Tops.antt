@@ -11,12 +11,12 @@ use Rattle.ch_model.specs.World.{◌>>=◌, log_of}
 use Rattle.ch_model.specs.Journal.{longest_journal, journal_of, first_fault}
 use Rattle.ch_model.specs.Spelling.{log_text}
 use Rattle.ch_laws_one_node.proofs.Limits.{all_within}
-use Rattle.ch_laws_lines.proofs.OneOfMany.{one_lawful, one_promised}
+use Rattle.ch_laws_lines.proofs.OneOfMany.{one_lawful}
+use Rattle.ch_laws_messages.proofs.PromisedPromises.{promised}
 use Rattle.ch_journal.specs.declared.status.Status.TheVariants.{WriteFault, Worn}
 use Rattle.ch_replay.specs.Outside.{IsIntake, Appended, AppendedSome}
 use Rattle.ch_replay.specs.Replayed.{replay_of}
 use Rattle.ch_replay.specs.Ends.{Ends, IsLogged, status_of_fault}
-use Rattle.ch_replay.proofs.Orderly.{orderly}
 use Rattle.ch_replay.proofs.Replays.{told_of, replays}
 
 -- the log whose text was told, and the fault
@@ -38,7 +38,7 @@ worn_by bytes (Ok log) e f = cc
 worn_by bytes (Err stop) e f = e ∙ (let k : stop ≡ stops.Worn = cc in ap (λ (s : Stop). Err s) k)
 
 logged : (bytes text : List ℕ) (fault : Option (ℕ × LineFault)) (held0 held1 : Option (List ℕ)) → Logs bytes text fault → Appended text held0 held1 → IsLogged bytes held0 held1
-logged bytes text fault held0 held1 l a = record { log = l.log; is_log = l.is_log; orderly = orderly bytes l.log l.is_log; lawful = λ of. one_lawful bytes l.log of l.is_log; promised = λ of. one_promised bytes l.log of l.is_log; appended = subst (λ (t : List ℕ). Appended t held0 held1) (sym l.text_is) a }
+logged bytes text fault held0 held1 l a = record { log = l.log; is_log = l.is_log; promised = promised bytes l.log l.is_log; lawful = λ of. one_lawful bytes l.log of l.is_log; appended = subst (λ (t : List ℕ). Appended t held0 held1) (sym l.text_is) a }
 
 -- a journal without a fault was taken whole, and nothing is left
 nothing_left : (bytes journal : List ℕ) (left : Option (List ℕ)) → journal ≡ take (longest_journal + 1) bytes → (length journal < longest_journal + 1 → left ≡ Some []) → first_fault many_nodes bytes ≡ None → left ≡ Some []
@@ -63,7 +63,7 @@ ends_written (Some bytes) left1 held0 held1 journal text (Some (n, faults.TooLon
 pub ends_in_part : (left0 left1 held0 held1 : Option (List ℕ)) (journal text : List ℕ) (fault : Option (ℕ × LineFault)) → IsIntake left0 left1 journal → replay_of journal ≡ Ok (text, fault) → AppendedSome text held0 held1 → Ends WriteFault left0 left1 held0 held1
 ends_in_part None left1 held0 held1 journal text fault i d a = tt
 ends_in_part (Some bytes) left1 held0 held1 journal text fault i d a =
-    let l = logs bytes journal text fault i.0 d in record { log = l.log; is_log = l.is_log; orderly = orderly bytes l.log l.is_log; lawful = λ of. one_lawful bytes l.log of l.is_log; promised = λ of. one_promised bytes l.log of l.is_log; appended = subst (λ (t : List ℕ). AppendedSome t held0 held1) (sym l.text_is) a }
+    let l = logs bytes journal text fault i.0 d in record { log = l.log; is_log = l.is_log; promised = promised bytes l.log l.is_log; lawful = λ of. one_lawful bytes l.log of l.is_log; appended = subst (λ (t : List ℕ). AppendedSome t held0 held1) (sym l.text_is) a }
 
 -- a count of the model stands at its last value
 pub ends_worn : (left0 left1 held : Option (List ℕ)) (journal : List ℕ) → IsIntake left0 left1 journal → replay_of journal ≡ Err stops.Worn → Ends Worn left0 left1 held held

@@ -14,26 +14,23 @@ use Rattle.ch_laws_one_node.specs.OneNode.{IsOfOneNode}
 use Rattle.ch_journal.specs.declared.status.Status.{Status}
 use Rattle.ch_journal.specs.declared.status.Status.TheVariants.{Done, Usage, ReadFault, WriteFault, BadLine, TooLong, OutOfMemory, Worn}
 use Rattle.ch_replay.specs.Outside.{Appended, AppendedSome}
-use Rattle.ch_replay.specs.Promised.{IsOrderly}
 
 -- The text that was appended is that of the log of the journal that these bytes spell, up to the first line that
--- is refused. That log is orderly; and where the journal is of one node, it is lawful, and all holds of it that the whole
--- model promises.
+-- is refused. All holds of that log that the whole model promises; and where the journal is of one node, it is lawful as
+-- the model of one node has it, too.
 pub record IsLogged (bytes : List ℕ) (held0 held1 : Option (List ℕ)) : Type 0 where
   pub log : List Entry
   pub is_log : log_of (journal_of many_nodes bytes) ≡ Ok log
-  pub orderly : IsOrderly (journal_of many_nodes bytes) log
+  pub promised : IsPromised (journal_of many_nodes bytes) log
   pub lawful : IsOfOneNode (journal_of many_nodes bytes) → IsLawful (journal_of many_nodes bytes) log
-  pub promised : IsOfOneNode (journal_of many_nodes bytes) → IsPromised (journal_of many_nodes bytes) log
   pub appended : Appended (log_text log) held0 held1
 
 -- some first bytes of that text were appended
 pub record IsLoggedInPart (bytes : List ℕ) (held0 held1 : Option (List ℕ)) : Type 0 where
   pub log : List Entry
   pub is_log : log_of (journal_of many_nodes bytes) ≡ Ok log
-  pub orderly : IsOrderly (journal_of many_nodes bytes) log
+  pub promised : IsPromised (journal_of many_nodes bytes) log
   pub lawful : IsOfOneNode (journal_of many_nodes bytes) → IsLawful (journal_of many_nodes bytes) log
-  pub promised : IsOfOneNode (journal_of many_nodes bytes) → IsPromised (journal_of many_nodes bytes) log
   pub appended : AppendedSome (log_text log) held0 held1
 
 -- What a status tells of the source's bytes and the sink's, where the source tells what it had. Done: no line is

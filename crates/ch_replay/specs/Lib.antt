@@ -3,5 +3,4 @@ pub mod Steps
 pub mod Replayed
 pub mod Outside
 pub mod Words
-pub mod Promised
 pub mod Ends

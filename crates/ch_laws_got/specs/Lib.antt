@@ -1,3 +1,0 @@
-pub mod ReadingGoes
-pub mod SaidWell
-pub mod Receipts

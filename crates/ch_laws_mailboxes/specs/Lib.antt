@@ -1,4 +1,0 @@
-pub mod Mail
-pub mod Given
-pub mod Said
-pub mod Answers

@@ -1,9 +1,0 @@
-use Rattle.ch_laws_said.proofs.Makes.{made_say}
-use Rattle.ch_laws_said.proofs.Still.{marked_say}
-use Rattle.ch_laws_said.proofs.answers_and_makings_say_nothing.Goals as goal
-
-pub returns-clause-marked : goal.returns-clause-marked
-returns-clause-marked c = marked_say
-
-pub returns-clause-made : goal.returns-clause-made
-returns-clause-made c = made_say

@@ -1,4 +1,0 @@
-pub mod Goes
-pub mod Puts
-pub mod Sends
-pub mod Heeds

@@ -1,9 +1,0 @@
-use Rattle.ch_laws_sends.proofs.Journals.{many_answered}
-use Rattle.ch_laws_sends.proofs.Lines.{sends_answered}
-use Rattle.ch_laws_sends.proofs.sends_are_answered.Goals as goal
-
-pub returns-clause-nodes : goal.returns-clause-nodes
-returns-clause-nodes c = sends_answered
-
-pub returns-clause-many : goal.returns-clause-many
-returns-clause-many c = many_answered

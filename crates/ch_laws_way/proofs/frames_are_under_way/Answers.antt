@@ -1,8 +1,0 @@
-use Rattle.ch_laws_way.proofs.Kept.{come_kept, fresh_come}
-use Rattle.ch_laws_way.proofs.frames_are_under_way.Goals as goal
-
-pub returns-clause-fresh : goal.returns-clause-fresh
-returns-clause-fresh z = fresh_come
-
-pub returns-clause-kept : goal.returns-clause-kept
-returns-clause-kept z = come_kept

@@ -1,5 +1,0 @@
-pub mod Goes
-pub mod Natures
-pub mod Hears
-pub mod Asked
-pub mod ReadingGoes
