@@ -6,3 +6,12 @@ pub mod Scenes
 pub mod Fits
 pub mod Peers
 pub mod Fed
+pub mod Turns
+pub mod UsersRecords
+pub mod UsersCarried
+pub mod UsersKept
+pub mod UsersScenes
+pub mod FitsFit
+pub mod FitsTurns
+pub mod ScenesKnocks
+pub mod ScenesPairs

@@ -4,9 +4,19 @@
 //! small things that happen: a mark or a note is told, nodes of a cell go on, a host is called once. What each of these keeps
 //! of the log and the world, `KeepsCalls`, holds after any first lines. Between lines no host has a whole item to read.
 //!
+//! What each keeps is in modules: of ends and bytes (`sound`), of links (`standing`), of targets' ends (`users`), of frames (`fits`), and
+//! of the scene of two nodes (`scenes`). `turns` cuts the same into greater steps.
+//!
 //! No code: definitions, and laws as clauses of empty functions. How claims that are kept are put together is in
 //! `proofs/Together.antt`.
 #![tactic(auto)]
+
+pub mod fits;
+pub mod scenes;
+pub mod sound;
+pub mod standing;
+pub mod turns;
+pub mod users;
 
 ghost use Rattle.std.specs.Prelude.{◌≡◌, ℕ, Bool, true, ◌==◌, List, [], ◌∷◌, ◌++◌, length, Ok};
 ghost use Rattle.ch_model.specs.declared.entry.Entry.{Entry};

@@ -19,9 +19,9 @@ use Rattle.ch_laws_links.specs.Standing.{Standing, standing, standing_of, IsPend
 use Rattle.ch_laws_links.proofs.Says.{risen}
 use Rattle.ch_laws_writes.specs.Dues.{Due, Asking, due_open, due_asked, due_staged, due_of, due_at, Writes}
 use Rattle.ch_laws_writes.proofs.Worlds.{number_is, number_same}
-use Rattle.ch_laws_fits.specs.Fit.{ids_of, given_at, final_in, final_at, Leads}
-use Rattle.ch_laws_fits.specs.Turns.{NoDials, DialsAlone}
-use Rattle.ch_laws_fits.proofs.Ups.{IsUpOn, IsUnrisen, stands}
+use Rattle.ch_laws_calls.specs.FitsFit.{ids_of, given_at, final_in, final_at, Leads}
+use Rattle.ch_laws_calls.specs.FitsTurns.{NoDials, DialsAlone}
+use Rattle.ch_laws_calls.proofs.FitsUps.{IsUpOn, IsUnrisen, stands}
 use Rattle.ch_laws_ids.specs.Runs.{pieces_at}
 use Rattle.ch_laws_ids.proofs.Hosts.{AsksOnly, DialsNew}
 

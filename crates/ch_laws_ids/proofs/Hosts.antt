@@ -23,9 +23,9 @@ use Rattle.ch_model.specs.AccountsItems.{item_of_front, frame_of}
 use Rattle.ch_model.specs.HostState.{Socket, HostState}
 use Rattle.ch_model.specs.HostSteps.{is_socket}
 use Rattle.ch_laws_calls.specs.Tables.{Table, frames_on}
-use Rattle.ch_laws_fits.specs.Fit.{final_at, frames_in, Leads}
-use Rattle.ch_laws_fits.specs.Turns.{bytes_at, NoDials, LeadsOn, WriterGoes, Carries}
-use Rattle.ch_laws_fits.proofs.Frames.{frames_after, frames_append, spelled_once}
+use Rattle.ch_laws_calls.specs.FitsFit.{final_at, frames_in, Leads}
+use Rattle.ch_laws_calls.specs.FitsTurns.{bytes_at, NoDials, LeadsOn, WriterGoes, Carries}
+use Rattle.ch_laws_calls.proofs.FitsFrames.{frames_after, frames_append, spelled_once}
 use Rattle.ch_laws_writes.specs.Dues.{Due, Asking, Answering, Framing, due_at, due_past, due_after, due_after_all, IsDue, AllDue, Writes}
 use Rattle.ch_laws_writes.specs.Writings.{AreItems}
 use Rattle.ch_laws_writes.proofs.Worlds.{number_is, number_same}

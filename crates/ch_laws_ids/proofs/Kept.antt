@@ -54,16 +54,16 @@ use Rattle.ch_laws_writes.proofs.Events.{event_writes}
 use Rattle.ch_laws_writes.proofs.Found.{kept_absent}
 use Rattle.ch_laws_writes.proofs.Items.{next_writes}
 use Rattle.ch_laws_writes.proofs.Written.{wrote_more}
-use Rattle.ch_laws_fits.specs.Fit.{up_on, ids_of, given_at, final_in, final_at, Leads, LinkHolds, HostHolds}
-use Rattle.ch_laws_fits.specs.Turns.{Turn}
-use Rattle.ch_laws_fits.proofs.Calls as turns_calls
-use Rattle.ch_laws_fits.proofs.Calls.{AllTurned}
-use Rattle.ch_laws_fits.proofs.Ends.{IsKept}
-use Rattle.ch_laws_fits.proofs.Events.{ended_turned, joined_turned}
-use Rattle.ch_laws_fits.proofs.Items.{next_turned}
-use Rattle.ch_laws_fits.proofs.Told.{end_kept, hosts_hold}
-use Rattle.ch_laws_fits.proofs.Turns.{carried}
-use Rattle.ch_laws_fits.proofs.Ups.{none_up}
+use Rattle.ch_laws_calls.specs.FitsFit.{up_on, ids_of, given_at, final_in, final_at, Leads, LinkHolds, HostHolds}
+use Rattle.ch_laws_calls.specs.FitsTurns.{Turn}
+use Rattle.ch_laws_calls.proofs.FitsCalls as turns_calls
+use Rattle.ch_laws_calls.proofs.FitsCalls.{AllTurned}
+use Rattle.ch_laws_calls.proofs.FitsEnds.{IsKept}
+use Rattle.ch_laws_calls.proofs.FitsEvents.{ended_turned, joined_turned}
+use Rattle.ch_laws_calls.proofs.FitsItems.{next_turned}
+use Rattle.ch_laws_calls.proofs.FitsTold.{end_kept, hosts_hold}
+use Rattle.ch_laws_calls.proofs.FitsTurns.{carried}
+use Rattle.ch_laws_calls.proofs.FitsUps.{none_up}
 use Rattle.ch_laws_calls.specs.Tables.{frames_on}
 use Rattle.ch_laws_ids.specs.Runs.{frames_from, Runs, RunsThere, RunsFor, AllRun}
 use Rattle.ch_laws_ids.proofs.Asks.{asks_quietly, joined_short, AllShort, IsShort, short_alone, asks_joined, dials_new, dial_asks}

@@ -18,12 +18,12 @@ use Rattle.ch_laws_calls.specs.Sound.{SoundEnds, SoundLinks}
 use Rattle.ch_laws_calls.specs.Tables.{Table, frames_on}
 use Rattle.ch_laws_calls.proofs.Lines.{all_kept}
 use Rattle.ch_laws_calls.proofs.Together.{given_first, weaker}
-use Rattle.ch_laws_fits.specs.Fit.{AllWriteFit, final_at, Leads}
-use Rattle.ch_laws_fits.proofs.Accounts.{ids_fit}
-use Rattle.ch_laws_fits.proofs.Kept.{fresh_fit}
+use Rattle.ch_laws_calls.specs.FitsFit.{AllWriteFit, final_at, Leads}
+use Rattle.ch_laws_calls.proofs.FitsAccounts.{ids_fit}
+use Rattle.ch_laws_calls.proofs.FitsKept.{fresh_fit}
 use Rattle.ch_laws_many.proofs.Reached.{IsJournal}
-use Rattle.ch_laws_sound.proofs.Kept.{ends_kept, fresh_ends}
-use Rattle.ch_laws_standing.proofs.Kept.{calls_kept, fresh_links}
+use Rattle.ch_laws_calls.proofs.SoundKept.{ends_kept, fresh_ends}
+use Rattle.ch_laws_calls.proofs.StandingKept.{calls_kept, fresh_links}
 use Rattle.ch_laws_ids.specs.Runs.{frames_from, RunsThere, RunsFor, AllRun}
 use Rattle.ch_laws_ids.proofs.Kept.{runs_kept}
 

@@ -38,10 +38,10 @@ use Rattle.ch_laws_log.proofs.Kept.{one_told}
 use Rattle.ch_laws_log.proofs.Stored.{number_is, same_is, self_same, find_stored, found_end, next_is_new, Distinct}
 use Rattle.ch_laws_log.proofs.WorldEnds.{found_is}
 use Rattle.ch_laws_writes.specs.Dues.{Asking, due_at}
-use Rattle.ch_laws_fits.specs.Fit.{final_at, Leads}
-use Rattle.ch_laws_fits.specs.Turns.{NoDials}
-use Rattle.ch_laws_fits.proofs.Ends.{IsKept}
-use Rattle.ch_laws_fits.proofs.Told.{hosts_hold}
+use Rattle.ch_laws_calls.specs.FitsFit.{final_at, Leads}
+use Rattle.ch_laws_calls.specs.FitsTurns.{NoDials}
+use Rattle.ch_laws_calls.proofs.FitsEnds.{IsKept}
+use Rattle.ch_laws_calls.proofs.FitsTold.{hosts_hold}
 use Rattle.ch_laws_ids.specs.Runs.{pieces_at, pieces_for, Runs, RunsThere, RunsFor, AllRun}
 use Rattle.ch_laws_ids.proofs.Hosts.{Does, runs_on, fits_some}
 

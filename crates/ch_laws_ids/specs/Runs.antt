@@ -14,7 +14,7 @@ use Rattle.ch_model.specs.WorldState.{Cell, WorldSocket, World}
 use Rattle.ch_laws_writes.specs.Dues.{Due, due_at}
 use Rattle.ch_laws_writes.proofs.Written.{FitsDue}
 use Rattle.ch_laws_calls.specs.Tables.{frames_on}
-use Rattle.ch_laws_fits.specs.Fit.{final_at, Leads, HostHolds}
+use Rattle.ch_laws_calls.specs.FitsFit.{final_at, Leads, HostHolds}
 
 -- ---- frames
 

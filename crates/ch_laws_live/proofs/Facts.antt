@@ -34,10 +34,10 @@ use Rattle.ch_laws_race.specs.View.{view}
 use Rattle.ch_laws_race.proofs.Readings.{other_twice}
 use Rattle.ch_laws_race.proofs.Sockets.{given}
 use Rattle.ch_laws_calls.specs.Scenes.{IsPairOf, scene_of}
-use Rattle.ch_laws_scenes.specs.Pairs.{IsPairFor}
-use Rattle.ch_laws_scenes.proofs.Held.{held_by}
-use Rattle.ch_laws_scenes.proofs.Peers.{ArePeers, opened_by_peers}
-use Rattle.ch_laws_scenes.proofs.Sides.{pairs_of}
+use Rattle.ch_laws_calls.specs.ScenesPairs.{IsPairFor}
+use Rattle.ch_laws_calls.proofs.ScenesHeld.{held_by}
+use Rattle.ch_laws_calls.proofs.ScenesPeers.{ArePeers, opened_by_peers}
+use Rattle.ch_laws_calls.proofs.ScenesSides.{pairs_of}
 use Rattle.ch_laws_live.specs.Accepts.{IsAnswered}
 use Rattle.ch_laws_live.specs.Lives.{Given, is_unended}
 use Rattle.ch_laws_live.proofs.Logs.{clash, or_either, unclosed_stays, up_unclosed}

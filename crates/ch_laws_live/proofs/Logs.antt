@@ -18,7 +18,7 @@ use Rattle.ch_model.specs.Sockets.{closes}
 use Rattle.ch_laws_log.proofs.Stored.{bytes_same}
 use Rattle.ch_laws_links.proofs.Found.{one_is}
 use Rattle.ch_laws_links.proofs.Risen.{may_tell}
-use Rattle.ch_laws_scenes.proofs.Places.{first_or, second_or}
+use Rattle.ch_laws_calls.proofs.ScenesPlaces.{first_or, second_or}
 use Rattle.ch_laws_live.specs.Turns.{is_start, is_turn}
 use Rattle.ch_laws_live.proofs.Entries.{both}
 

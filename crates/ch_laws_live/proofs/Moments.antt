@@ -22,7 +22,7 @@ use Rattle.ch_laws_log.proofs.Blocks.{each_append}
 use Rattle.ch_laws_log.proofs.Stored.{self_same}
 use Rattle.ch_laws_links.proofs.Found.{one_is, one_self}
 use Rattle.ch_laws_links.proofs.Risen.{may_tell}
-use Rattle.ch_laws_scenes.proofs.Places.{first_or, second_or}
+use Rattle.ch_laws_calls.proofs.ScenesPlaces.{first_or, second_or}
 use Rattle.ch_laws_live.specs.Lives.{is_unended, dials_new, IsLively}
 use Rattle.ch_laws_live.specs.Turns.{is_start, is_turn, start_last}
 use Rattle.ch_laws_live.proofs.Entries.{both}

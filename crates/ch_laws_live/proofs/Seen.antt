@@ -56,7 +56,7 @@ use Rattle.ch_laws_race.specs.View.{Reader, reader_of, record_of, reader_at, ope
 use Rattle.ch_laws_race.proofs.Readings.{other_twice}
 use Rattle.ch_laws_race.proofs.Sockets.{same_place, place_found}
 use Rattle.ch_laws_calls.specs.Scenes.{IsPairOf, scene_of, IsOfSide, SceneFacts}
-use Rattle.ch_laws_scenes.proofs.Held.{is_held}
+use Rattle.ch_laws_calls.proofs.ScenesHeld.{is_held}
 use Rattle.ch_laws_live.specs.Lives.{Given, is_unended}
 use Rattle.ch_laws_live.proofs.Logs.{clash}
 use Rattle.ch_laws_live.proofs.Tests.{IsUp}

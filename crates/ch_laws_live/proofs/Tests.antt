@@ -19,7 +19,7 @@ use Rattle.ch_model.specs.Same.{same_pair, owner, across, is_end_of}
 use Rattle.ch_model.specs.Sockets.{is_opening, closes}
 use Rattle.ch_laws_links.proofs.Found.{one_self}
 use Rattle.ch_laws_links.proofs.Risen.{may_tell}
-use Rattle.ch_laws_scenes.proofs.Places.{first_or, second_or}
+use Rattle.ch_laws_calls.proofs.ScenesPlaces.{first_or, second_or}
 use Rattle.ch_laws_live.specs.Turns.{is_start, is_turn, startless, turnless, start_last}
 use Rattle.ch_laws_live.proofs.Entries.{both, last_turnless}
 use Rattle.ch_laws_live.proofs.Logs.{IsMay, not_true, clash, or_either, any_more, any_less, none_among, each_front, rises_start, closes_turn, once_after}

@@ -14,7 +14,7 @@ use Rattle.ch_model.specs.WorldState.{World}
 use Rattle.ch_laws_calls.specs.Peers.{Peers}
 use Rattle.ch_laws_calls.specs.Scenes.{Shown, Raced}
 use Rattle.ch_laws_calls.specs.Sound.{Sound}
-use Rattle.ch_laws_scenes.specs.Knocks.{Unknocked}
+use Rattle.ch_laws_calls.specs.ScenesKnocks.{Unknocked}
 
 -- Of a log and its world: hosts and world agree; each two nodes are a scene as the laws of the race ask for, and are seen as a pair that
 -- comes about by moves that may happen; each dial is between two nodes, and nobody knocks.

@@ -3,7 +3,7 @@ use Rattle.std.specs.Prelude.{List}
 use Rattle.ch_model.specs.declared.entry.Entry.{Entry}
 use Rattle.ch_model.specs.declared.line.Line.{Line}
 use Rattle.ch_model.specs.WorldState.{World}
-use Rattle.ch_laws_turns.specs.Turns.{KeepsTurns}
+use Rattle.ch_laws_calls.specs.Turns.{KeepsTurns}
 use Rattle.ch_laws_peers.specs.Standing.{IsOfNodes, Standing}
 use Rattle.ch_laws_peers.proofs.Dialed.{Known, item_reads, end_reads}
 use Rattle.ch_laws_messages.specs.SendsSends.{AllGive}

@@ -14,7 +14,7 @@ use Rattle.ch_laws_ends.proofs.Known.{pending_is}
 use Rattle.ch_laws_ends.proofs.Places.{some_is, set_split}
 use Rattle.ch_laws_log.specs.HostEnds.{stage_at, stage_after, stage_after_all, IsNewTo, AreNewTo, Tells}
 use Rattle.ch_laws_reads.specs.Reads.{AreRead, HasRead, GoesOn, IsKept, IsFresh, Reads, reads_of}
-use Rattle.ch_laws_sound.proofs.Hears.{Becomes, found_after}
+use Rattle.ch_laws_calls.proofs.SoundHears.{Becomes, found_after}
 use Rattle.ch_laws_messages.specs.ArrivedFed.{HoldsNone}
 use Rattle.ch_laws_messages.proofs.ArrivedFronts.{none_whole}
 

@@ -15,9 +15,9 @@ use Rattle.ch_laws_calls.specs.Calls.{Anything, Both}
 use Rattle.ch_laws_calls.specs.Sound.{Sound}
 use Rattle.ch_laws_calls.proofs.Together.{Combines, given_first}
 use Rattle.ch_laws_risen.proofs.Kept.{fresh_risen, sound_kept}
-use Rattle.ch_laws_turns.specs.Turns.{KeepsTurns}
-use Rattle.ch_laws_turns.proofs.OfCalls.{by_calls}
-use Rattle.ch_laws_turns.proofs.Together as turns
+use Rattle.ch_laws_calls.specs.Turns.{KeepsTurns}
+use Rattle.ch_laws_calls.proofs.TurnsOfCalls.{by_calls}
+use Rattle.ch_laws_calls.proofs.TurnsTogether as turns
 use Rattle.ch_laws_peers.specs.Standing.{IsOfNodes, Standing}
 use Rattle.ch_laws_messages.specs.ArrivedFed.{LastFed}
 use Rattle.ch_laws_messages.proofs.ArrivedEmpty.{HostHoldsNone}

@@ -58,9 +58,9 @@ use Rattle.ch_laws_bytes.proofs.Stepped.{ReadsFirst}
 use Rattle.ch_laws_calls.specs.Calls as calls
 use Rattle.ch_laws_calls.specs.Calls.{IsIn, IsHeldBy, IsCalled, KeepsCalls, with_host, done_at, joined_in, come_in, fed_in}
 use Rattle.ch_laws_calls.specs.Sound.{SoundEnds, Sound}
-use Rattle.ch_laws_sound.proofs.Changed.{but_at}
-use Rattle.ch_laws_sound.proofs.Fed.{is_working}
-use Rattle.ch_laws_sound.proofs.Hears.{Becomes, IsFed, IsJoined, joined_so, came_so, fed_so, found_after}
+use Rattle.ch_laws_calls.proofs.SoundChanged.{but_at}
+use Rattle.ch_laws_calls.proofs.SoundFed.{is_working}
+use Rattle.ch_laws_calls.proofs.SoundHears.{Becomes, IsFed, IsJoined, joined_so, came_so, fed_so, found_after}
 use Rattle.ch_laws_risen.specs.Firsts.{AreRisen}
 use Rattle.ch_laws_risen.proofs.Firsts.{AllDials}
 use Rattle.ch_laws_risen.proofs.Kept.{risen_kept}

@@ -42,7 +42,7 @@ use Rattle.ch_laws_bytes.proofs.Lines.{own_of}
 use Rattle.ch_laws_calls.specs.Calls.{with_host, IsCalled}
 use Rattle.ch_laws_risen.proofs.Logs.{is_feeding}
 use Rattle.ch_laws_risen.proofs.Told.{step_unfed}
-use Rattle.ch_laws_turns.specs.Turns.{told_on, IsAsked, end_in, KeepsTurns}
+use Rattle.ch_laws_calls.specs.Turns.{told_on, IsAsked, end_in, KeepsTurns}
 use Rattle.ch_laws_plain_logs.specs.Plain.{IsPlain}
 use Rattle.ch_laws_plain_nodes.specs.Does.{Makes}
 use Rattle.ch_laws_plain_nodes.specs.Plain.{IsPlain as IsPlainNode}

@@ -34,7 +34,7 @@ use Rattle.ch_laws_plain.proofs.AsksActs.{AreQuiet, acts_quiet, closes_quiet, qu
 use Rattle.ch_laws_plain_nodes.specs.Does.{SendsHome, SendsAway, Takes, Ends, got_acts}
 use Rattle.ch_laws_plain_nodes.specs.Plain.{IsPlain}
 use Rattle.ch_laws_plain_nodes.proofs.Commands.{does_away, does_home, does_take, does_end}
-use Rattle.ch_laws_turns.specs.Turns.{told_on, IsAsked, end_in}
+use Rattle.ch_laws_calls.specs.Turns.{told_on, IsAsked, end_in}
 use Rattle.ch_laws_writes.specs.Orderly.{IsOrderly}
 use Rattle.ch_laws_peers.specs.Says.{AllSay}
 use Rattle.ch_laws_peers.specs.Standing.{IsOfNodes, Standing}

@@ -36,16 +36,16 @@ use Rattle.ch_laws_bytes.proofs.Lines.{own_of}
 use Rattle.ch_laws_calls.specs.Scenes.{IsPairOf, SceneFacts, scene_of}
 use Rattle.ch_laws_ends.proofs.Changes.{told_cells}
 use Rattle.ch_laws_ends.proofs.Places.{got_same}
-use Rattle.ch_laws_fits.specs.Turns.{NoDials, IsKind}
+use Rattle.ch_laws_calls.specs.FitsTurns.{NoDials, IsKind}
 use Rattle.ch_laws_ids.specs.Runs.{pieces_at, pieces_for}
 use Rattle.ch_laws_log.specs.HostEnds.{steps_in}
 use Rattle.ch_laws_places.specs.Said.{said_at}
 use Rattle.ch_laws_plain_logs.specs.Plain.{said_by}
 use Rattle.ch_laws_race.specs.Scene.{Party, link_of}
 use Rattle.ch_laws_reads.specs.Reads.{reads_of}
-use Rattle.ch_laws_scenes.proofs.Given.{host_is}
-use Rattle.ch_laws_scenes.proofs.Held.{is_held}
-use Rattle.ch_laws_turns.specs.Turns.{told_on}
+use Rattle.ch_laws_calls.proofs.ScenesGiven.{host_is}
+use Rattle.ch_laws_calls.proofs.ScenesHeld.{is_held}
+use Rattle.ch_laws_calls.specs.Turns.{told_on}
 use Rattle.ch_laws_writes.specs.Dues.{Due, Framing, due_at}
 use Rattle.ch_laws_writes.proofs.Worlds.{number_is, number_same}
 use Rattle.ch_laws_peers.specs.Words.{Placed, words_in, waiting_as, sayings, placing, TrueWords}

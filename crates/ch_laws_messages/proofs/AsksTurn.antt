@@ -23,9 +23,9 @@ use Rattle.ch_model.specs.WorldState.{Cell, WorldSocket, World}
 use Rattle.ch_race.specs.Pair.{Side, other}
 use Rattle.ch_laws_bytes.proofs.Lines.{own_of}
 use Rattle.ch_laws_calls.specs.Scenes.{IsPairOf}
-use Rattle.ch_laws_fits.specs.Fit.{MayAskWell}
-use Rattle.ch_laws_fits.specs.Turns.{NoDials}
-use Rattle.ch_laws_fits.proofs.Stores.{none_kind}
+use Rattle.ch_laws_calls.specs.FitsFit.{MayAskWell}
+use Rattle.ch_laws_calls.specs.FitsTurns.{NoDials}
+use Rattle.ch_laws_calls.proofs.FitsStores.{none_kind}
 use Rattle.ch_laws_log.proofs.HostTold.{number_same}
 use Rattle.ch_laws_places.specs.Said.{Piece, said_at}
 use Rattle.ch_laws_plain.specs.Talks.{MaySpell}

@@ -12,7 +12,7 @@ use Rattle.ch_model.specs.World.{names_of, world_new}
 use Rattle.ch_model.specs.WorldHappenings.{with_cell}
 use Rattle.ch_model.specs.WorldState.{Cell, World}
 use Rattle.ch_laws_calls.specs.Calls.{Both, with_host, done_at, joined_in, come_in, fed_in}
-use Rattle.ch_laws_turns.specs.Turns.{KeepsTurns, told_on, end_in}
+use Rattle.ch_laws_calls.specs.Turns.{KeepsTurns, told_on, end_in}
 use Rattle.ch_laws_peers.specs.Says.{AllSay}
 use Rattle.ch_laws_peers.specs.Standing.{Standing}
 use Rattle.ch_laws_messages.specs.CarriedInTime.{AllInTime}

@@ -5,7 +5,7 @@ use Rattle.ch_model.specs.declared.line.Line.{Line}
 use Rattle.ch_model.specs.Epochs.{FollowsEpochs}
 use Rattle.ch_model.specs.WorldState.{World}
 use Rattle.ch_laws_calls.specs.Calls.{Both}
-use Rattle.ch_laws_turns.specs.Turns.{KeepsTurns}
+use Rattle.ch_laws_calls.specs.Turns.{KeepsTurns}
 use Rattle.ch_laws_peers.specs.Standing.{IsOfNodes}
 use Rattle.ch_laws_messages.specs.WayReadingGoes.{ReadingGoes}
 use Rattle.ch_laws_messages.specs.GotReadingGoes.{KnownGot}

@@ -29,7 +29,7 @@ use Rattle.ch_race.specs.Pair.{Side, other}
 use Rattle.ch_laws_race.specs.Scene.{Party}
 use Rattle.ch_laws_calls.specs.Calls.{with_host}
 use Rattle.ch_laws_calls.specs.Scenes.{IsPairOf}
-use Rattle.ch_laws_turns.specs.Turns.{told_on}
+use Rattle.ch_laws_calls.specs.Turns.{told_on}
 use Rattle.ch_laws_peers.specs.Words.{Placed, Word, sayings, Carries, TrueWord, TrueWords}
 use Rattle.ch_laws_peers.specs.Reads.{reads, ReadsNext, ReadsOne, ReadsNone, after_first, gets_of, read_of, IsOfPair}
 use Rattle.ch_laws_peers.specs.Standing.{IsOfNodes}

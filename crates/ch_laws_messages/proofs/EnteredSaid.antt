@@ -31,7 +31,7 @@ use Rattle.ch_race.specs.Pair.{other}
 use Rattle.ch_laws_bytes.proofs.Lines.{own_of}
 use Rattle.ch_laws_calls.specs.Calls.{with_host}
 use Rattle.ch_laws_plain.specs.ReadsReading.{posts_in}
-use Rattle.ch_laws_turns.specs.Turns.{told_on}
+use Rattle.ch_laws_calls.specs.Turns.{told_on}
 use Rattle.ch_laws_peers.specs.Standing.{IsOfNodes}
 use Rattle.ch_laws_peers.specs.Reads.{read_of}
 use Rattle.ch_laws_messages.specs.WayReadingGoes.{OneRead, ReadingGoes}

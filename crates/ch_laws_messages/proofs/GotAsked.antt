@@ -56,7 +56,7 @@ use Rattle.ch_laws_plain_nodes.specs.Does.{Makes, sent_acts, pair_between, got_a
 use Rattle.ch_laws_plain_nodes.specs.Plain.{IsPlain, IsPlainCommand}
 use Rattle.ch_laws_plain_nodes.proofs.Commands as plain
 use Rattle.ch_laws_race.specs.Scene.{Party}
-use Rattle.ch_laws_turns.specs.Turns.{told_on}
+use Rattle.ch_laws_calls.specs.Turns.{told_on}
 use Rattle.ch_laws_peers.specs.Reads.{AllLeadHere, gets_of, read_of, Gets}
 use Rattle.ch_laws_messages.proofs.GotMoves.{has_conn}
 use Rattle.ch_laws_messages.proofs.GotLiving.{all_lead_here, lives_of}

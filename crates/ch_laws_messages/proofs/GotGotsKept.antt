@@ -29,7 +29,7 @@ use Rattle.ch_laws_plain_nodes.specs.Plain.{IsPlain as IsPlainNode}
 use Rattle.ch_laws_plain_nodes.proofs.Calls.{makes}
 use Rattle.ch_laws_plain_nodes.proofs.Steps.{given_so}
 use Rattle.ch_laws_calls.specs.Calls.{with_host, IsCalled}
-use Rattle.ch_laws_turns.specs.Turns.{told_on, IsAsked, end_in, KeepsTurns}
+use Rattle.ch_laws_calls.specs.Turns.{told_on, IsAsked, end_in, KeepsTurns}
 use Rattle.ch_laws_peers.specs.Reads.{AllGet}
 use Rattle.ch_laws_peers.specs.Standing.{IsOfNodes}
 use Rattle.ch_laws_messages.specs.WayReadingGoes.{Known, OneRead, ReadingGoes}

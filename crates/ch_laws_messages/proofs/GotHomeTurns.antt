@@ -48,7 +48,7 @@ use Rattle.ch_laws_plain_logs.specs.Plain.{IsPlain}
 use Rattle.ch_laws_plain_nodes.specs.Does.{pair_between, said_note, sent_acts}
 use Rattle.ch_laws_plain_nodes.specs.Plain.{IsPlain as IsPlainNode, IsPlainCommand}
 use Rattle.ch_laws_plain_nodes.proofs.Commands as plain
-use Rattle.ch_laws_turns.specs.Turns.{told_on}
+use Rattle.ch_laws_calls.specs.Turns.{told_on}
 use Rattle.ch_laws_messages.specs.MailMail.{is_gone, waiting_for}
 use Rattle.ch_laws_messages.proofs.MailCalls.{test_at}
 use Rattle.ch_laws_messages.proofs.MailMails.{Changes, AllPut, put_changes, TakesFirst, AllTaken, take_changes}

@@ -46,7 +46,7 @@ use Rattle.ch_laws_links.proofs.Readings.{Matches, FrontMatches, reading_matches
 use Rattle.ch_laws_links.proofs.Says.{used, unused}
 use Rattle.ch_laws_writes.specs.Orderly.{IsOrderly}
 use Rattle.ch_laws_writes.proofs.Ordered.{is_key}
-use Rattle.ch_laws_fits.proofs.Stores.{Stores, stored}
+use Rattle.ch_laws_calls.proofs.FitsStores.{Stores, stored}
 use Rattle.ch_laws_plain.specs.Talks.{HostIsPlain}
 use Rattle.ch_laws_plain.specs.ReadsReading.{posts_in, Brings}
 use Rattle.ch_laws_plain.proofs.ReadsBrought.{own_key}

@@ -51,7 +51,7 @@ use Rattle.ch_laws_plain_nodes.proofs.Steps.{given_so}
 use Rattle.ch_laws_race.specs.Scene.{Party}
 use Rattle.ch_laws_calls.specs.Calls.{with_host, done_at, joined_in, come_in, fed_in, IsCalled}
 use Rattle.ch_laws_calls.specs.Scenes.{IsPairOf}
-use Rattle.ch_laws_turns.specs.Turns.{told_on, IsAsked, end_in, KeepsTurns}
+use Rattle.ch_laws_calls.specs.Turns.{told_on, IsAsked, end_in, KeepsTurns}
 use Rattle.ch_laws_peers.specs.Says.{node_in}
 use Rattle.ch_laws_peers.specs.Reads.{gets_of, read_of, Gets, AllGet}
 use Rattle.ch_laws_peers.specs.Standing.{IsOfNodes}

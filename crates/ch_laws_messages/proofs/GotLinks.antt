@@ -29,13 +29,13 @@ use Rattle.ch_laws_race.specs.Reading.{IsUser}
 use Rattle.ch_laws_race.proofs.Readings.{other_twice}
 use Rattle.ch_laws_race.proofs.Sockets.{given}
 use Rattle.ch_laws_calls.specs.Scenes.{IsPairOf, scene_of, IsOfSide}
-use Rattle.ch_laws_scenes.specs.Pairs.{IsPairFor}
-use Rattle.ch_laws_scenes.proofs.Given.{IsGiven}
-use Rattle.ch_laws_scenes.proofs.Held.{held_by, IsFoundAt, found_at, found_held}
-use Rattle.ch_laws_scenes.proofs.Peers.{ArePeers, opened_by_peers}
-use Rattle.ch_laws_scenes.proofs.Sides.{pairs_of}
-use Rattle.ch_laws_scenes.proofs.Dialed.{opened_as, of_side, used_for}
-use Rattle.ch_laws_users.proofs.Kept.{users_used}
+use Rattle.ch_laws_calls.specs.ScenesPairs.{IsPairFor}
+use Rattle.ch_laws_calls.proofs.ScenesGiven.{IsGiven}
+use Rattle.ch_laws_calls.proofs.ScenesHeld.{held_by, IsFoundAt, found_at, found_held}
+use Rattle.ch_laws_calls.proofs.ScenesPeers.{ArePeers, opened_by_peers}
+use Rattle.ch_laws_calls.proofs.ScenesSides.{pairs_of}
+use Rattle.ch_laws_calls.proofs.ScenesDialed.{opened_as, of_side, used_for}
+use Rattle.ch_laws_calls.proofs.UsersKept.{users_used}
 use Rattle.ch_laws_messages.proofs.GotLists.{none_some}
 use Rattle.ch_laws_peers.specs.Standing.{IsOfNodes, Standing}
 

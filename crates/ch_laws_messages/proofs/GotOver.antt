@@ -18,7 +18,7 @@ use Rattle.ch_model.specs.WorldState.{Cell, World}
 use Rattle.ch_model.specs.WorldSteps.{or_first}
 use Rattle.ch_race.specs.Pair.{other}
 use Rattle.ch_laws_calls.specs.Calls.{with_host}
-use Rattle.ch_laws_turns.specs.Turns.{told_on}
+use Rattle.ch_laws_calls.specs.Turns.{told_on}
 use Rattle.ch_laws_raced.specs.UnbrokenGiven.{Given}
 use Rattle.ch_laws_raced.proofs.OnceOver.{over_link_next}
 use Rattle.ch_laws_peers.specs.Reads.{AllGet}

@@ -42,7 +42,7 @@ use Rattle.ch_laws_plain_nodes.specs.Does.{Makes}
 use Rattle.ch_laws_plain_nodes.proofs.Calls.{makes}
 use Rattle.ch_laws_plain_nodes.proofs.Steps.{given_so}
 use Rattle.ch_laws_calls.specs.Calls.{with_host, done_at, joined_in, come_in, fed_in, IsCalled}
-use Rattle.ch_laws_turns.specs.Turns.{told_on, end_in, KeepsTurns}
+use Rattle.ch_laws_calls.specs.Turns.{told_on, end_in, KeepsTurns}
 use Rattle.ch_laws_messages.specs.MailMail.{waiting_for}
 use Rattle.ch_laws_messages.proofs.MailMails.{Changes, AllPut, put_changes}
 use Rattle.ch_laws_messages.proofs.MailNodes as mail

@@ -71,7 +71,7 @@ use Rattle.ch_laws_race.proofs.Readings.{other_twice}
 use Rattle.ch_laws_race.specs.Scene.{Party, host_in, link_of}
 use Rattle.ch_laws_calls.specs.Calls.{with_host}
 use Rattle.ch_laws_calls.specs.Scenes.{IsPairOf, SceneFacts, scene_of}
-use Rattle.ch_laws_turns.specs.Turns.{told_on}
+use Rattle.ch_laws_calls.specs.Turns.{told_on}
 use Rattle.ch_laws_writes.proofs.Ordered.{is_key}
 use Rattle.ch_laws_peers.specs.Words.{words_in, datas_in}
 use Rattle.ch_laws_peers.specs.Says.{towards, node_in, node_of}

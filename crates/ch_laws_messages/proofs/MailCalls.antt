@@ -40,7 +40,7 @@ use Rattle.ch_laws_many.specs.ManyLines.{AreNamedApart}
 use Rattle.ch_laws_many.proofs.Reached.{IsJournal}
 use Rattle.ch_laws_one_node.proofs.Appending.{IsTaken}
 use Rattle.ch_laws_world.specs.Grows.{homes_of}
-use Rattle.ch_laws_turns.specs.Turns.{told_on}
+use Rattle.ch_laws_calls.specs.Turns.{told_on}
 use Rattle.ch_laws_plain_nodes.specs.Does.{pair_between, said_note}
 use Rattle.ch_laws_plain_nodes.specs.Plain.{IsPlain, IsPlainCommand}
 use Rattle.ch_laws_messages.specs.MailMail.{AllMail, GoesOn, waiting_for}

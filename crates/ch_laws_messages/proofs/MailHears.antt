@@ -42,7 +42,7 @@ use Rattle.ch_laws_plain.specs.Plain.{CellIsPlain}
 use Rattle.ch_laws_plain.specs.ReadsReading.{posts_in, Brings}
 use Rattle.ch_laws_plain.proofs.ReadsBrought.{AllLet, all_gone}
 use Rattle.ch_laws_plain.proofs.ReadsLinks.{Keeps, Fails}
-use Rattle.ch_laws_turns.specs.Turns.{told_on}
+use Rattle.ch_laws_calls.specs.Turns.{told_on}
 use Rattle.ch_laws_world.specs.Grows.{homes_of}
 use Rattle.ch_laws_messages.specs.MailMail.{AllMail, GoesOn, waiting_for}
 use Rattle.ch_laws_messages.specs.MailSaid.{GotIsSaid}

@@ -16,7 +16,7 @@ use Rattle.ch_laws_calls.specs.Calls.{Claim, Both}
 use Rattle.ch_laws_log.proofs.Blocks.{each_append}
 use Rattle.ch_laws_many.specs.ManyLines.{AreNamedApart}
 use Rattle.ch_laws_many.proofs.Reached.{IsJournal}
-use Rattle.ch_laws_turns.specs.Turns.{KeepsTurns}
+use Rattle.ch_laws_calls.specs.Turns.{KeepsTurns}
 use Rattle.ch_laws_messages.specs.MailGiven.{Given}
 use Rattle.ch_laws_messages.specs.MailMail.{MailStands, AllMail, TakesFirst, GoesOn, waiting_for}
 use Rattle.ch_laws_messages.specs.MailSaid.{GotsAreSaid}

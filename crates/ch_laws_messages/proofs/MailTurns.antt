@@ -35,7 +35,7 @@ use Rattle.ch_laws_ends.proofs.Changes.{cells_stay, told_cells}
 use Rattle.ch_laws_ends.proofs.Places.{set_twice}
 use Rattle.ch_laws_many.specs.ManyLines.{is_of_many, AreNamedApart}
 use Rattle.ch_laws_many.proofs.Reached.{IsJournal}
-use Rattle.ch_laws_turns.specs.Turns.{told_on, IsAsked, end_in}
+use Rattle.ch_laws_calls.specs.Turns.{told_on, IsAsked, end_in}
 use Rattle.ch_laws_plain.proofs.AsksCommands.{asks_plainly, plain_command}
 use Rattle.ch_laws_plain.proofs.ReadsTurns.{next_reads}
 use Rattle.ch_laws_messages.specs.MailGiven.{Given}

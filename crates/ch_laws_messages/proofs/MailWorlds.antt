@@ -24,7 +24,7 @@ use Rattle.ch_laws_log.proofs.Stored.{number_same}
 use Rattle.ch_laws_world.specs.Grows.{homes_of}
 use Rattle.ch_laws_many.specs.ManyLines.{AreNamedApart}
 use Rattle.ch_laws_many.proofs.Reached.{IsJournal}
-use Rattle.ch_laws_turns.specs.Turns.{told_on}
+use Rattle.ch_laws_calls.specs.Turns.{told_on}
 use Rattle.ch_laws_messages.specs.MailMail.{MailStands, AllMail, waiting_for, is_gone}
 use Rattle.ch_laws_messages.proofs.MailLogs.{AreSilent, silent_all}
 use Rattle.ch_laws_messages.proofs.MailPlaces.{one_place}

@@ -24,9 +24,9 @@ use Rattle.ch_laws_log.proofs.Agreeing.{At}
 use Rattle.ch_laws_log.proofs.Seen.{grown_is, opened_is}
 use Rattle.ch_laws_log.proofs.Stored.{self_same}
 use Rattle.ch_laws_log.proofs.Views.{Seen, unseen, grown, sees_entry, seen_in, end_seen}
-use Rattle.ch_laws_scenes.specs.Pairs.{IsPairFor}
-use Rattle.ch_laws_scenes.proofs.Peers.{ArePeers, opened_by_peers}
-use Rattle.ch_laws_scenes.proofs.Sides.{pairs_of}
+use Rattle.ch_laws_calls.specs.ScenesPairs.{IsPairFor}
+use Rattle.ch_laws_calls.proofs.ScenesPeers.{ArePeers, opened_by_peers}
+use Rattle.ch_laws_calls.proofs.ScenesSides.{pairs_of}
 use Rattle.ch_laws_peers.specs.Standing.{IsOfNodes, Standing}
 
 -- ---- what was written at a socket that nothing was seen of

@@ -30,7 +30,7 @@ use Rattle.ch_race.specs.Pair.{Side, other}
 use Rattle.ch_laws_log.proofs.Stored.{self_same}
 use Rattle.ch_laws_race.specs.Scene.{Party, link_of}
 use Rattle.ch_laws_calls.specs.Scenes.{scene_of}
-use Rattle.ch_laws_scenes.specs.Pairs.{IsPairFor}
+use Rattle.ch_laws_calls.specs.ScenesPairs.{IsPairFor}
 use Rattle.ch_laws_plain_logs.specs.Plain.{is_plain, IsPlain, opens_no_nodes, writes_no_nodes, WritesNoNodes, said_by}
 use Rattle.ch_laws_plain_logs.proofs.Lawful.{all_of_nodes}
 use Rattle.ch_laws_plain_logs.proofs.Simply.{said_between_plainly, carried_next}

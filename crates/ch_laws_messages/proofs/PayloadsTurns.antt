@@ -19,7 +19,7 @@ use Rattle.ch_model.specs.WorldState.{World}
 use Rattle.ch_race.specs.Pair.{other}
 use Rattle.ch_laws_calls.specs.Calls.{Both, with_host, joined_in, come_in, fed_in}
 use Rattle.ch_laws_many.specs.ManyLines.{is_of_many}
-use Rattle.ch_laws_turns.specs.Turns.{KeepsTurns}
+use Rattle.ch_laws_calls.specs.Turns.{KeepsTurns}
 use Rattle.ch_laws_plain_logs.specs.Plain.{said_by}
 use Rattle.ch_laws_peers.specs.Words.{sayings, opens_one}
 use Rattle.ch_laws_peers.specs.Says.{written_by, AllSay}

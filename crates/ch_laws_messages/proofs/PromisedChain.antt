@@ -6,8 +6,8 @@ use Rattle.ch_model.specs.World.{world_new}
 use Rattle.ch_model.specs.WorldState.{World}
 use Rattle.ch_laws_calls.specs.Calls.{Claim, Both}
 use Rattle.ch_laws_ids.specs.Runs.{AllRun}
-use Rattle.ch_laws_turns.specs.Turns.{KeepsTurns}
-use Rattle.ch_laws_turns.proofs.Together.{weaker, given_with}
+use Rattle.ch_laws_calls.specs.Turns.{KeepsTurns}
+use Rattle.ch_laws_calls.proofs.TurnsTogether.{weaker, given_with}
 use Rattle.ch_laws_peers.specs.Standing.{IsOfNodes, Standing}
 use Rattle.ch_laws_peers.specs.Says.{AllSay}
 use Rattle.ch_laws_peers.specs.Reads.{AllCome, AllGet}

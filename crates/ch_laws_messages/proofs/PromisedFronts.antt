@@ -8,9 +8,9 @@ use Rattle.ch_model.specs.LinesBuilt.{many_nodes}
 use Rattle.ch_model.specs.World.{world_new, log_from}
 use Rattle.ch_model.specs.WorldState.{World}
 use Rattle.ch_laws_calls.specs.Calls.{Claim, Both}
-use Rattle.ch_laws_turns.specs.Turns.{KeepsTurns}
-use Rattle.ch_laws_turns.proofs.Lines.{all_turns}
-use Rattle.ch_laws_turns.proofs.Together.{weaker, beside, given_with, while_given}
+use Rattle.ch_laws_calls.specs.Turns.{KeepsTurns}
+use Rattle.ch_laws_calls.proofs.TurnsLines.{all_turns}
+use Rattle.ch_laws_calls.proofs.TurnsTogether.{weaker, beside, given_with, while_given}
 use Rattle.ch_laws_peers.specs.Says.{AllSay}
 use Rattle.ch_laws_peers.specs.Standing.{IsOfNodes, Standing}
 use Rattle.ch_laws_peers.proofs.Logs.{of_nodes}

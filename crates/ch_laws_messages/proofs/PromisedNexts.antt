@@ -15,7 +15,7 @@ use Rattle.ch_model.specs.HostState.{HostState}
 use Rattle.ch_model.specs.Naming.{process_called}
 use Rattle.ch_model.specs.WorldState.{Cell, World}
 use Rattle.ch_laws_calls.specs.Calls.{with_host}
-use Rattle.ch_laws_turns.specs.Turns.{told_on}
+use Rattle.ch_laws_calls.specs.Turns.{told_on}
 use Rattle.ch_laws_peers.specs.Standing.{IsOfNodes}
 use Rattle.ch_laws_messages.specs.WayReadingGoes.{OneRead, ReadingGoes}
 use Rattle.ch_laws_messages.specs.GotReadingGoes.{KnownGot}

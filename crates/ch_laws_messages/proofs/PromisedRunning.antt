@@ -8,9 +8,9 @@ use Rattle.ch_laws_calls.specs.Calls.{Claim, Anything, Both}
 use Rattle.ch_laws_calls.specs.Sound.{SoundEnds, SoundLinks}
 use Rattle.ch_laws_ids.specs.Runs.{AllRun}
 use Rattle.ch_laws_ids.proofs.Logs.{fresh_runs, sound_runs_kept}
-use Rattle.ch_laws_turns.specs.Turns.{KeepsTurns}
-use Rattle.ch_laws_turns.proofs.OfCalls.{by_calls}
-use Rattle.ch_laws_turns.proofs.Together.{alike, beside}
+use Rattle.ch_laws_calls.specs.Turns.{KeepsTurns}
+use Rattle.ch_laws_calls.proofs.TurnsOfCalls.{by_calls}
+use Rattle.ch_laws_calls.proofs.TurnsTogether.{alike, beside}
 use Rattle.ch_laws_peers.specs.Standing.{IsOfNodes, Standing}
 use Rattle.ch_laws_peers.proofs.Together.{standing_kept, fresh_standing}
 

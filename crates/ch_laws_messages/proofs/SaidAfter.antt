@@ -15,10 +15,10 @@ use Rattle.ch_laws_lines.proofs.ManyNodes.{many_in_order}
 use Rattle.ch_laws_many.proofs.Journals.{is_journal}
 use Rattle.ch_laws_spelled.proofs.Fronts.{front_well}
 use Rattle.ch_laws_spelled.proofs.LinesWell.{bytes_have}
-use Rattle.ch_laws_turns.specs.Turns.{KeepsTurns}
-use Rattle.ch_laws_turns.proofs.Lines.{all_turns}
-use Rattle.ch_laws_turns.proofs.OfCalls.{by_calls}
-use Rattle.ch_laws_turns.proofs.Together.{beside, given_with, weaker, while_given}
+use Rattle.ch_laws_calls.specs.Turns.{KeepsTurns}
+use Rattle.ch_laws_calls.proofs.TurnsLines.{all_turns}
+use Rattle.ch_laws_calls.proofs.TurnsOfCalls.{by_calls}
+use Rattle.ch_laws_calls.proofs.TurnsTogether.{beside, given_with, weaker, while_given}
 use Rattle.ch_laws_peers.specs.Says.{AllSay}
 use Rattle.ch_laws_peers.specs.Standing.{IsOfNodes, Standing}
 use Rattle.ch_laws_peers.proofs.Logs.{of_nodes}

@@ -21,7 +21,7 @@ use Rattle.ch_model.specs.NodeState.{NodeState}
 use Rattle.ch_model.specs.WorldState.{Cell, World}
 use Rattle.ch_laws_ids.specs.Runs.{AllRun}
 use Rattle.ch_laws_log.specs.Declared.{is_declared}
-use Rattle.ch_laws_turns.specs.Turns.{IsAsked, end_in, told_on}
+use Rattle.ch_laws_calls.specs.Turns.{IsAsked, end_in, told_on}
 use Rattle.ch_laws_peers.specs.Says.{AllSay}
 use Rattle.ch_laws_peers.specs.Standing.{IsOfNodes, Standing}
 use Rattle.ch_laws_messages.specs.SaidGoes.{SaysWell}

@@ -32,7 +32,7 @@ use Rattle.ch_laws_connections.specs.Taken.{ActsTaken}
 use Rattle.ch_laws_connections.proofs.Acts.{Moves, act_fits}
 use Rattle.ch_laws_connections.proofs.GivenIn.{place, is_placed, with_id, closed_once, closed_length}
 use Rattle.ch_laws_connections.proofs.HostCalls.{IsCarried, carried}
-use Rattle.ch_laws_fits.specs.Turns.{NoDials}
+use Rattle.ch_laws_calls.specs.FitsTurns.{NoDials}
 use Rattle.ch_laws_links.specs.Naming.{IsNaming}
 use Rattle.ch_laws_links.proofs.Hosts as naming
 use Rattle.ch_laws_log.specs.HostEnds.{steps_in}

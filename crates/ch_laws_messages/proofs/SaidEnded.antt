@@ -35,10 +35,10 @@ use Rattle.ch_laws_calls.specs.Calls.{with_host, IsCalled}
 use Rattle.ch_laws_ends.proofs.Changes.{told_cells}
 use Rattle.ch_laws_links.proofs.Keys.{ended_rest}
 use Rattle.ch_laws_race.specs.Scene.{host_in}
-use Rattle.ch_laws_turns.specs.Turns.{told_on}
+use Rattle.ch_laws_calls.specs.Turns.{told_on}
 use Rattle.ch_laws_peers.specs.Says.{node_in, AllSay}
 use Rattle.ch_laws_peers.specs.Standing.{Standing}
-use Rattle.ch_laws_fits.specs.Turns.{NoDials}
+use Rattle.ch_laws_calls.specs.FitsTurns.{NoDials}
 use Rattle.ch_laws_log.specs.HostEnds.{steps_in}
 use Rattle.ch_laws_messages.specs.SaidHeeds.{AreCalm}
 use Rattle.ch_laws_messages.proofs.SaidFed.{cells_rest, rests_say}

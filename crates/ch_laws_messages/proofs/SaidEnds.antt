@@ -46,7 +46,7 @@ use Rattle.ch_laws_connections.proofs.Acts.{Moves, After, act_fits, acts_fit}
 use Rattle.ch_laws_connections.proofs.Pairs.{found_kept, kept_has}
 use Rattle.ch_laws_ends.proofs.Changes.{told_cells}
 use Rattle.ch_laws_ends.proofs.Places.{got_same}
-use Rattle.ch_laws_fits.specs.Turns.{NoDials}
+use Rattle.ch_laws_calls.specs.FitsTurns.{NoDials}
 use Rattle.ch_laws_ids.specs.Runs.{AllRun}
 use Rattle.ch_laws_lives.specs.Rolls.{ends_of}
 use Rattle.ch_laws_log.specs.HostEnds.{steps_in}
@@ -56,7 +56,7 @@ use Rattle.ch_laws_plain_nodes.specs.Does.{Ends}
 use Rattle.ch_laws_plain_nodes.specs.Plain.{IsPlain}
 use Rattle.ch_laws_plain_nodes.proofs.Commands.{does_end}
 use Rattle.ch_laws_race.specs.Scene.{Party, host_in, link_of}
-use Rattle.ch_laws_turns.specs.Turns.{told_on}
+use Rattle.ch_laws_calls.specs.Turns.{told_on}
 use Rattle.ch_laws_peers.specs.Says.{node_in, node_of, Says, AllSay}
 use Rattle.ch_laws_peers.specs.Standing.{Standing}
 use Rattle.ch_laws_writes.proofs.Worlds.{number_is, number_same}

@@ -24,7 +24,7 @@ use Rattle.ch_laws_plain.specs.MeetsReads.{ReadsPlain}
 use Rattle.ch_laws_plain.proofs.MeetsBegins.{peers_read_plain}
 use Rattle.ch_laws_plain.proofs.ReadsTurns as reads
 use Rattle.ch_laws_race.specs.Chains.{unposted}
-use Rattle.ch_laws_users.proofs.Kept.{users_used}
+use Rattle.ch_laws_calls.proofs.UsersKept.{users_used}
 use Rattle.ch_laws_writes.specs.Orderly.{IsOrderly}
 use Rattle.ch_laws_peers.specs.Standing.{IsOfNodes, Standing}
 

@@ -37,7 +37,7 @@ use Rattle.ch_race.specs.Pair.{Side, Lesser, Greater, other}
 use Rattle.ch_laws_bytes.proofs.Told.{told_names}
 use Rattle.ch_laws_calls.specs.Scenes.{IsPairOf, SceneFacts}
 use Rattle.ch_laws_ends.proofs.Changes.{told_cells}
-use Rattle.ch_laws_fits.specs.Turns.{NoDials}
+use Rattle.ch_laws_calls.specs.FitsTurns.{NoDials}
 use Rattle.ch_laws_ids.specs.Runs.{AllRun, pieces_at}
 use Rattle.ch_laws_log.specs.HostEnds.{steps_in}
 use Rattle.ch_laws_lives.specs.Rolls.{ends_of}
@@ -48,7 +48,7 @@ use Rattle.ch_laws_plain_nodes.proofs.Commands.{does_home, others_stay}
 use Rattle.ch_laws_plain_nodes.proofs.Sends.{home_pair}
 use Rattle.ch_laws_plain_logs.specs.Plain.{said_by}
 use Rattle.ch_laws_race.specs.Scene.{Party, host_in, hosts_of}
-use Rattle.ch_laws_turns.specs.Turns.{told_on}
+use Rattle.ch_laws_calls.specs.Turns.{told_on}
 use Rattle.ch_laws_peers.specs.Words.{sayings}
 use Rattle.ch_laws_peers.specs.Says.{node_in, node_of, Says, AllSay}
 use Rattle.ch_laws_peers.specs.Standing.{Standing}

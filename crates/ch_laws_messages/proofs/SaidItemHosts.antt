@@ -20,9 +20,9 @@ use Rattle.ch_model.specs.HostLinks.{does_act, hears}
 use Rattle.ch_model.specs.HostState.{Link, HostState}
 use Rattle.ch_model.specs.HostSteps.{own_address, store_link, with_link}
 use Rattle.ch_model.specs.HostWrites.{is_up, frame_step, end_socket}
-use Rattle.ch_laws_fits.specs.Turns.{NoDials}
-use Rattle.ch_laws_fits.proofs.Halves.{MayHear}
-use Rattle.ch_laws_fits.proofs.Stores.{Stores, stored, stored_again, waits_alone}
+use Rattle.ch_laws_calls.specs.FitsTurns.{NoDials}
+use Rattle.ch_laws_calls.proofs.FitsHalves.{MayHear}
+use Rattle.ch_laws_calls.proofs.FitsStores.{Stores, stored, stored_again, waits_alone}
 use Rattle.ch_laws_ids.specs.Runs.{pieces_at}
 use Rattle.ch_laws_plain.specs.Talks.{MaySpell}
 use Rattle.ch_laws_plain.proofs.Heard.{IsWell, over_stores}

@@ -34,7 +34,7 @@ use Rattle.ch_model.specs.HostState.{Endpoint, Link, Socket, HostState}
 use Rattle.ch_model.specs.HostSteps.{Stepped, still, after_steps, is_endpoint, link_with, with_link, with_socket, with_endpoint, is_socket}
 use Rattle.ch_model.specs.HostWrites.{is_up, answers_and_leaves, leaves, end_socket}
 use Rattle.ch_model.specs.Stages.{Stage, Pending, Open, Ended, is_open, is_ended}
-use Rattle.ch_laws_fits.proofs.Stores.{Stores, stored}
+use Rattle.ch_laws_calls.proofs.FitsStores.{Stores, stored}
 use Rattle.ch_laws_ids.specs.Runs.{pieces_at}
 use Rattle.ch_laws_items.proofs.Next.{served}
 use Rattle.ch_laws_links.specs.Naming.{IsNaming, IsDialedBy, IsUpFor}
@@ -51,7 +51,7 @@ use Rattle.ch_laws_peers.specs.Says.{ArePlaced}
 use Rattle.ch_laws_messages.specs.SaidGoes.{bare}
 use Rattle.ch_laws_messages.specs.SaidPuts.{only_on}
 use Rattle.ch_laws_messages.specs.SaidHeeds.{AreCalm, IsAnswer, FromDown, FromUp, Tells, AllTell, Heeds}
-use Rattle.ch_laws_fits.specs.Turns.{NoDials}
+use Rattle.ch_laws_calls.specs.FitsTurns.{NoDials}
 use Rattle.ch_laws_messages.proofs.SaidItemHosts.{one_answer, heard}
 use Rattle.ch_laws_messages.proofs.SaidUtters.{one_key}
 

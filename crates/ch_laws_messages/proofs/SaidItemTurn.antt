@@ -46,7 +46,7 @@ use Rattle.ch_laws_bytes.proofs.Told.{told_names}
 use Rattle.ch_laws_calls.specs.Scenes.{IsPairOf, scene_of, SceneFacts}
 use Rattle.ch_laws_ends.proofs.Changes.{told_cells}
 use Rattle.ch_laws_ends.proofs.Found.{EachFound}
-use Rattle.ch_laws_fits.specs.Turns.{NoDials}
+use Rattle.ch_laws_calls.specs.FitsTurns.{NoDials}
 use Rattle.ch_laws_ids.specs.Runs.{pieces_at, pieces_for, Runs, RunsThere, RunsFor, AllRun}
 use Rattle.ch_laws_links.specs.Naming.{IsNaming}
 use Rattle.ch_laws_log.proofs.Stored.{found_end}
@@ -55,7 +55,7 @@ use Rattle.ch_laws_log.specs.HostEnds.{steps_in}
 use Rattle.ch_laws_plain.specs.Talks.{IsUpThere}
 use Rattle.ch_laws_plain_logs.specs.Plain.{said_by}
 use Rattle.ch_laws_race.specs.Scene.{Party, host_in, hosts_of, link_of}
-use Rattle.ch_laws_turns.specs.Turns.{told_on}
+use Rattle.ch_laws_calls.specs.Turns.{told_on}
 use Rattle.ch_laws_writes.specs.Dues.{Answering, Framing, due_at}
 use Rattle.ch_laws_writes.specs.Orderly.{IsOrderly}
 use Rattle.ch_laws_writes.proofs.Worlds.{number_is, number_same}

@@ -36,7 +36,7 @@ use Rattle.ch_laws_bytes.proofs.Told.{end_names, told_names}
 use Rattle.ch_laws_calls.specs.Calls.{with_host, done_at, IsCalled, IsIn, joined_in}
 use Rattle.ch_laws_calls.specs.Scenes.{scene_of}
 use Rattle.ch_laws_ends.proofs.Changes.{cells_stay, told_cells}
-use Rattle.ch_laws_fits.specs.Turns.{NoDials}
+use Rattle.ch_laws_calls.specs.FitsTurns.{NoDials}
 use Rattle.ch_laws_ids.specs.Runs.{RunsThere, RunsFor, AllRun}
 use Rattle.ch_laws_items.proofs.Sockets.{number_is}
 use Rattle.ch_laws_links.proofs.Found.{KeepsPlace, found_kept}

@@ -27,7 +27,7 @@ use Rattle.ch_laws_raced.specs.UnbrokenBreaks.{calm}
 use Rattle.ch_laws_raced.specs.UnbrokenGiven as unbroken
 use Rattle.ch_laws_raced.proofs.UnbrokenItems.{calm_next}
 use Rattle.ch_laws_raced.proofs.UnbrokenOvers.{calm_over}
-use Rattle.ch_laws_turns.specs.Turns.{KeepsTurns}
+use Rattle.ch_laws_calls.specs.Turns.{KeepsTurns}
 use Rattle.ch_laws_peers.specs.Says.{AllSay}
 use Rattle.ch_laws_peers.specs.Standing.{IsOfNodes, Standing}
 use Rattle.ch_laws_messages.specs.SaidGiven.{SaidGiven}

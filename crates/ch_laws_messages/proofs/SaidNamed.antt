@@ -31,7 +31,7 @@ use Rattle.ch_laws_items.specs.Stays.{Who, seats_of}
 use Rattle.ch_laws_log.specs.Declared.{AreApart, is_declared}
 use Rattle.ch_laws_log.proofs.Homes.{SeatsAt, AllAtHome, Housed, fresh_housed, called_so, own_is}
 use Rattle.ch_laws_log.proofs.Stored.{number_is}
-use Rattle.ch_laws_scenes.proofs.Places.{homed_as}
+use Rattle.ch_laws_calls.proofs.ScenesPlaces.{homed_as}
 use Rattle.ch_laws_world.specs.Grows.{Home, home_of, homes_of}
 
 -- ---- names and ids

@@ -21,8 +21,8 @@ use Rattle.ch_model.specs.WorldState.{Cell, World}
 use Rattle.ch_race.specs.Pair.{Side, other}
 use Rattle.ch_laws_calls.specs.Scenes.{IsPairOf, scene_of, SceneFacts}
 use Rattle.ch_laws_calls.specs.Tables.{Table, table_of, frames_on}
-use Rattle.ch_laws_fits.specs.Fit.{ids_of, given_at, final_in, final_at, Leads}
-use Rattle.ch_laws_fits.proofs.Ups.{up_is}
+use Rattle.ch_laws_calls.specs.FitsFit.{ids_of, given_at, final_in, final_at, Leads}
+use Rattle.ch_laws_calls.proofs.FitsUps.{up_is}
 use Rattle.ch_laws_ids.specs.Runs.{RunsThere, RunsFor, AllRun}
 use Rattle.ch_laws_links.specs.Naming.{IsNaming}
 use Rattle.ch_laws_links.proofs.Says.{risen}

@@ -28,7 +28,7 @@ use Rattle.ch_model.specs.HostSteps.{Stepped, after_steps, ◌then◌, own_addre
 use Rattle.ch_model.specs.HostWrites.{is_up, said_of, frame_step, puts}
 use Rattle.ch_laws_links.proofs.Keys.{link_named}
 use Rattle.ch_laws_writes.proofs.Ordered.{at_stored}
-use Rattle.ch_laws_fits.proofs.Stores.{Stores, stored, stored_again}
+use Rattle.ch_laws_calls.proofs.FitsStores.{Stores, stored, stored_again}
 use Rattle.ch_laws_peers.specs.Words.{Placed, waiting_as}
 use Rattle.ch_laws_messages.specs.SaidPuts.{write_step, DialsFrom, Puts, AllPut}
 

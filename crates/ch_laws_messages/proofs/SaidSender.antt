@@ -58,9 +58,9 @@ use Rattle.ch_laws_plain_nodes.specs.Plain.{IsPlain}
 use Rattle.ch_laws_plain_nodes.proofs.Commands.{does_away, others_stay}
 use Rattle.ch_laws_plain_nodes.proofs.Sends.{away_pair}
 use Rattle.ch_laws_race.specs.Scene.{Party, host_in}
-use Rattle.ch_laws_scenes.specs.Pairs.{IsPairFor}
-use Rattle.ch_laws_scenes.proofs.Sides.{pairs_of}
-use Rattle.ch_laws_turns.specs.Turns.{IsAsked, end_in, told_on}
+use Rattle.ch_laws_calls.specs.ScenesPairs.{IsPairFor}
+use Rattle.ch_laws_calls.proofs.ScenesSides.{pairs_of}
+use Rattle.ch_laws_calls.specs.Turns.{IsAsked, end_in, told_on}
 use Rattle.ch_laws_world.proofs.Journals.{address_stays}
 use Rattle.ch_laws_peers.specs.Says.{node_of, Says, AllSay}
 use Rattle.ch_laws_peers.specs.Standing.{IsOfNodes, Standing}

@@ -50,8 +50,8 @@ use Rattle.ch_laws_log.proofs.Homes.{node_self}
 use Rattle.ch_laws_log.proofs.Keys.{node_is}
 use Rattle.ch_laws_plain_logs.specs.Plain.{said_by}
 use Rattle.ch_laws_race.specs.Scene.{Party, host_in, hosts_of, link_of}
-use Rattle.ch_laws_scenes.proofs.Places.{is_there, homed_as}
-use Rattle.ch_laws_turns.specs.Turns.{told_on}
+use Rattle.ch_laws_calls.proofs.ScenesPlaces.{is_there, homed_as}
+use Rattle.ch_laws_calls.specs.Turns.{told_on}
 use Rattle.ch_laws_world.specs.Grows.{Home}
 use Rattle.ch_laws_writes.proofs.Ordered.{is_key}
 use Rattle.ch_laws_writes.proofs.Worlds.{number_is, number_same}

@@ -32,7 +32,7 @@ use Rattle.ch_laws_bytes.proofs.Event.{set_at}
 use Rattle.ch_laws_calls.specs.Scenes.{IsPairOf, scene_of}
 use Rattle.ch_laws_plain_logs.specs.Plain.{said_by}
 use Rattle.ch_laws_race.specs.Scene.{Party, host_in, link_of}
-use Rattle.ch_laws_turns.specs.Turns.{told_on}
+use Rattle.ch_laws_calls.specs.Turns.{told_on}
 use Rattle.ch_laws_writes.proofs.Worlds.{number_is}
 use Rattle.ch_laws_peers.specs.Words.{sayings, waiting_as}
 use Rattle.ch_laws_peers.specs.Says.{frames_towards, node_in, node_of, IsUpOn, Says, AllSay}

@@ -42,7 +42,7 @@ use Rattle.ch_laws_plain_nodes.specs.Plain.{IsPlain}
 use Rattle.ch_laws_plain_nodes.proofs.Commands.{does_take}
 use Rattle.ch_laws_race.specs.Scene.{Party}
 use Rattle.ch_laws_writes.proofs.Worlds.{number_is}
-use Rattle.ch_laws_turns.specs.Turns.{told_on}
+use Rattle.ch_laws_calls.specs.Turns.{told_on}
 use Rattle.ch_laws_peers.specs.Says.{node_in, node_of, Says, AllSay}
 use Rattle.ch_laws_peers.specs.Standing.{Standing}
 use Rattle.ch_laws_messages.specs.SaidGoes.{given_to, mark_of, NodeStays}

@@ -31,7 +31,7 @@ use Rattle.ch_laws_ends.proofs.Known.{Sorted, keeps_sorted}
 use Rattle.ch_laws_log.proofs.Kept.{one_told}
 use Rattle.ch_laws_log.proofs.Stored.{same_is, self_same, find_stored, found_end, next_is_new, Distinct}
 use Rattle.ch_laws_log.proofs.WorldEnds.{found_is}
-use Rattle.ch_laws_fits.specs.Turns.{NoDials}
+use Rattle.ch_laws_calls.specs.FitsTurns.{NoDials}
 use Rattle.ch_laws_ids.specs.Runs.{pieces_at, pieces_for}
 use Rattle.ch_model.specs.Naming.{Names}
 use Rattle.ch_model.specs.declared.local.LocalEntry.{LocalEntry}
@@ -40,7 +40,7 @@ use Rattle.ch_model.specs.declared.note.Note.TheVariants as notes
 use Rattle.ch_laws_ends.proofs.Told.{Sure}
 use Rattle.ch_laws_links.proofs.Found.{same_found}
 use Rattle.ch_laws_log.specs.HostEnds.{steps_in}
-use Rattle.ch_laws_turns.specs.Turns.{told_on}
+use Rattle.ch_laws_calls.specs.Turns.{told_on}
 use Rattle.ch_laws_ends.proofs.Found.{new_found}
 use Rattle.ch_laws_links.proofs.Found.{or_end}
 use Rattle.ch_laws_messages.specs.SaidPuts.{DialsOne}

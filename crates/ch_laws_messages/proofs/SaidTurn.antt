@@ -17,7 +17,7 @@ use Rattle.ch_laws_ends.proofs.Changes.{told_cells}
 use Rattle.ch_laws_ids.specs.Runs.{AllRun}
 use Rattle.ch_laws_log.specs.HostEnds.{steps_in}
 use Rattle.ch_laws_race.specs.Scene.{Party}
-use Rattle.ch_laws_turns.specs.Turns.{told_on}
+use Rattle.ch_laws_calls.specs.Turns.{told_on}
 use Rattle.ch_laws_writes.proofs.Worlds.{number_is, number_same}
 use Rattle.ch_laws_peers.specs.Words.{Placed}
 use Rattle.ch_laws_peers.specs.Says.{node_in, node_of, ArePlaced, Says, AllSay}

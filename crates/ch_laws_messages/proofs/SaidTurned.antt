@@ -35,7 +35,7 @@ use Rattle.ch_laws_log.proofs.Stored.{find_name}
 use Rattle.ch_laws_log.specs.HostEnds.{steps_in}
 use Rattle.ch_laws_plain.specs.Talks.{IsUpThere}
 use Rattle.ch_laws_race.specs.Scene.{Party, host_in, hosts_of, link_of}
-use Rattle.ch_laws_turns.specs.Turns.{told_on}
+use Rattle.ch_laws_calls.specs.Turns.{told_on}
 use Rattle.ch_laws_writes.specs.Dues.{Framing}
 use Rattle.ch_laws_writes.specs.Orderly.{IsOrderly}
 use Rattle.ch_laws_writes.proofs.Ordered.{is_key, at_key}

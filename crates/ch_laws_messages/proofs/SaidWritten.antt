@@ -17,7 +17,7 @@ use Rattle.ch_model.specs.declared.name.End.{End}
 use Rattle.ch_model.specs.declared.name.SockName.{SockName}
 use Rattle.ch_model.specs.AccountsItems.{item_of_front, frame_of, frames_of}
 use Rattle.ch_model.specs.Sockets.{writing, writings}
-use Rattle.ch_laws_fits.specs.Turns.{NoDials}
+use Rattle.ch_laws_calls.specs.FitsTurns.{NoDials}
 use Rattle.ch_laws_ids.specs.Runs.{pieces_at}
 use Rattle.ch_laws_plain.specs.Talks.{MaySpell}
 use Rattle.ch_laws_writes.proofs.Worlds.{number_same}

@@ -65,9 +65,9 @@ use Rattle.ch_laws_epochs.proofs.Calm.{Calm, on_command}
 use Rattle.ch_race.specs.Pair.{Side, other}
 use Rattle.ch_laws_race.specs.Scene.{Party}
 use Rattle.ch_laws_calls.specs.Scenes.{IsPairOf, SceneFacts}
-use Rattle.ch_laws_scenes.proofs.Given.{addresses_differ}
+use Rattle.ch_laws_calls.proofs.ScenesGiven.{addresses_differ}
 use Rattle.ch_laws_live.proofs.Logs.{each_at}
-use Rattle.ch_laws_turns.specs.Turns.{told_on, IsAsked, end_in}
+use Rattle.ch_laws_calls.specs.Turns.{told_on, IsAsked, end_in}
 use Rattle.ch_laws_plain_nodes.specs.Acts.{ArePlain, OpensNone}
 use Rattle.ch_laws_plain_nodes.specs.Does.{Makes, pair_between, said_note, sent_acts, got_acts, SendsAway, SendsHome}
 use Rattle.ch_laws_plain_nodes.specs.Plain.{IsPlain as IsPlainNode}

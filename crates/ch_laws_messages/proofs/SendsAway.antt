@@ -64,8 +64,8 @@ use Rattle.ch_laws_acting.proofs.Ends.{Ready, CelledSo, AnsweredSo}
 use Rattle.ch_race.specs.Pair.{Side, other}
 use Rattle.ch_laws_race.specs.Scene.{Party, host_in, link_of}
 use Rattle.ch_laws_calls.specs.Scenes.{SceneFacts, scene_of}
-use Rattle.ch_laws_scenes.specs.Pairs.{IsPairFor}
-use Rattle.ch_laws_scenes.proofs.Given.{addresses_differ}
+use Rattle.ch_laws_calls.specs.ScenesPairs.{IsPairFor}
+use Rattle.ch_laws_calls.proofs.ScenesGiven.{addresses_differ}
 use Rattle.ch_laws_plain_nodes.specs.Plain.{IsPlain as IsPlainNode}
 use Rattle.ch_laws_plain_logs.proofs.Absent.{no_pair_broken}
 use Rattle.ch_laws_plain.proofs.AsksPlaces.{housed}

@@ -1,7 +1,7 @@
 -- Each turn keeps it that links have given an id for each pair of processes that has said something.
 use Rattle.std.proofs.Common.{List, ◌∷◌, length}
 use Rattle.ch_model.specs.declared.line.Line.{Line}
-use Rattle.ch_laws_turns.specs.Turns.{KeepsTurns}
+use Rattle.ch_laws_calls.specs.Turns.{KeepsTurns}
 use Rattle.ch_laws_peers.specs.Standing.{IsOfNodes}
 use Rattle.ch_laws_messages.specs.SendsSends.{AllGive}
 use Rattle.ch_laws_messages.specs.SendsTurns.{Told, EndsAskNone, ItemsAskNone}

@@ -44,7 +44,7 @@ use Rattle.ch_laws_lives.proofs.WorldLives as world_lives
 use Rattle.ch_laws_acting.proofs.Ends.{Ready}
 use Rattle.ch_laws_acting.proofs.WorldRests.{LivedOn, fresh_alive, step_lives}
 use Rattle.ch_laws_live.proofs.Logs.{each_front}
-use Rattle.ch_laws_scenes.proofs.Sides.{pairs_of}
+use Rattle.ch_laws_calls.proofs.ScenesSides.{pairs_of}
 use Rattle.ch_laws_plain_logs.specs.Plain.{is_plain, IsPlain}
 use Rattle.ch_laws_plain.proofs.AsksPlaces.{housed}
 use Rattle.ch_laws_peers.specs.Says.{AllSay}

@@ -23,7 +23,7 @@ use Rattle.ch_model.specs.WorldSteps.{all_told}
 use Rattle.ch_laws_ends.proofs.Changes.{told_cells}
 use Rattle.ch_laws_links.proofs.Worlds.{end_cells}
 use Rattle.ch_laws_calls.specs.Calls.{with_host, done_at, IsCalled, joined_in, come_in, fed_in}
-use Rattle.ch_laws_turns.specs.Turns.{told_on}
+use Rattle.ch_laws_calls.specs.Turns.{told_on}
 use Rattle.ch_laws_plain_logs.specs.Plain.{is_plain, IsPlain}
 use Rattle.ch_laws_messages.specs.SendsSends.{LinksWeighed, AllGive}
 use Rattle.ch_laws_messages.specs.SendsTurns.{Told, EndsAskNone, ItemsAskNone}

@@ -40,7 +40,7 @@ use Rattle.ch_laws_items.proofs.Next.{served}
 use Rattle.ch_laws_log.specs.HostEnds.{IsSound}
 use Rattle.ch_laws_plain.proofs.ReadsTurns.{next_done}
 use Rattle.ch_laws_reads.specs.Reads.{reads_of}
-use Rattle.ch_laws_fits.proofs.Stores.{waits_read}
+use Rattle.ch_laws_calls.proofs.FitsStores.{waits_read}
 
 -- an input that a host hears as it reads
 abbrev IsHeard : LinkIn → Type 0

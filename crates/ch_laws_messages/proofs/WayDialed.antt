@@ -37,7 +37,7 @@ use Rattle.ch_laws_reads.specs.Reads.{IsFresh}
 use Rattle.ch_laws_places.specs.Said.{Piece}
 use Rattle.ch_laws_places.proofs.Sockets.{pieces_for, SocketGoes, dial_rests}
 use Rattle.ch_laws_plain.proofs.Worlds.{steps_same}
-use Rattle.ch_laws_turns.specs.Turns.{told_on}
+use Rattle.ch_laws_calls.specs.Turns.{told_on}
 use Rattle.ch_laws_peers.specs.Reads.{PlacedItem, IsWay}
 use Rattle.ch_laws_messages.specs.WayGoes.{EndTurn, EndOpens, AllTurn}
 use Rattle.ch_laws_messages.proofs.WaySteps.{note_silent, wrote_both}

@@ -21,9 +21,9 @@ use Rattle.ch_model.specs.HostWrites.{said_of}
 use Rattle.ch_laws_bytes.specs.Streams.{MayAsk}
 use Rattle.ch_laws_writes.specs.Dues.{Due, Asking, Answering, Framing, due_past, IsDue, AllDue}
 use Rattle.ch_laws_writes.specs.Orderly.{AreFrames}
-use Rattle.ch_laws_fits.specs.Turns.{NoDials, IsKind}
-use Rattle.ch_laws_fits.proofs.Frames.{spelled_once}
-use Rattle.ch_laws_fits.proofs.Stores.{none_kind}
+use Rattle.ch_laws_calls.specs.FitsTurns.{NoDials, IsKind}
+use Rattle.ch_laws_calls.proofs.FitsFrames.{spelled_once}
+use Rattle.ch_laws_calls.proofs.FitsStores.{none_kind}
 use Rattle.ch_laws_places.specs.Said.{Piece, said_at}
 use Rattle.ch_laws_peers.specs.Words.{Placed, waiting_as}
 use Rattle.ch_laws_peers.specs.Reads.{PlacedItem, items_in, placed_in}

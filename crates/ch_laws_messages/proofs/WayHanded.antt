@@ -36,8 +36,8 @@ use Rattle.ch_laws_ends.proofs.Places.{got_same, set_twice}
 use Rattle.ch_laws_live.proofs.Fresh.{end_none}
 use Rattle.ch_laws_log.proofs.HostTold.{number_found, find_stored}
 use Rattle.ch_laws_log.proofs.Stored.{number_is, number_same, self_same}
-use Rattle.ch_laws_fits.proofs.Sockets.{IsChanged, IsAnother, changed_or}
-use Rattle.ch_laws_fits.proofs.Told.{end_kept}
+use Rattle.ch_laws_calls.proofs.FitsSockets.{IsChanged, IsAnother, changed_or}
+use Rattle.ch_laws_calls.proofs.FitsTold.{end_kept}
 use Rattle.ch_laws_messages.specs.WayGoes.{AllTurn}
 use Rattle.ch_laws_messages.proofs.WayRests.{SameText, text_same, none_new, Rests, rest_turns, wrote_none}
 

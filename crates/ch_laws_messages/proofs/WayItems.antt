@@ -41,12 +41,12 @@ use Rattle.ch_laws_writes.specs.Dues.{Due, Answering, Framing, due_after, due_at
 use Rattle.ch_laws_writes.specs.Orderly.{AreFrames, IsOrderly, AllWrite, link_at}
 use Rattle.ch_laws_writes.proofs.Events.{event_writes}
 use Rattle.ch_laws_writes.proofs.Items.{next_writes}
-use Rattle.ch_laws_fits.specs.Fit.{MayAskWell}
-use Rattle.ch_laws_fits.specs.Turns.{NoDials, IsKind}
-use Rattle.ch_laws_fits.proofs.Ends.{own_by, flows_there}
+use Rattle.ch_laws_calls.specs.FitsFit.{MayAskWell}
+use Rattle.ch_laws_calls.specs.FitsTurns.{NoDials, IsKind}
+use Rattle.ch_laws_calls.proofs.FitsEnds.{own_by, flows_there}
 use Rattle.ch_laws_places.specs.Said.{Piece, said_at}
 use Rattle.ch_laws_plain.proofs.ReadsAlone.{next_dials_none, ended_dials_none}
-use Rattle.ch_laws_scenes.proofs.Given.{host_is}
+use Rattle.ch_laws_calls.proofs.ScenesGiven.{host_is}
 use Rattle.ch_laws_peers.specs.Words.{Placed, words_in, waiting_as, placing, sayings, TrueWords}
 use Rattle.ch_laws_peers.specs.Says.{frames_towards, IsUpOn, Says}
 use Rattle.ch_laws_peers.specs.Reads.{PlacedItem, items_in, placed_in, AreTruly}

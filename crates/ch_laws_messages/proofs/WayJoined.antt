@@ -46,9 +46,9 @@ use Rattle.ch_laws_reads.proofs.HostEventsRead.{event_read}
 use Rattle.ch_laws_writes.specs.Dues.{Due, Asking, due_asked, due_of, due_staged, due_at, AllDue}
 use Rattle.ch_laws_writes.specs.Orderly.{IsOrderly, AllWrite}
 use Rattle.ch_laws_writes.proofs.Events.{event_writes}
-use Rattle.ch_laws_fits.specs.Fit.{MayAskWell}
-use Rattle.ch_laws_fits.specs.Turns.{NoDials, IsKind}
-use Rattle.ch_laws_fits.proofs.Events.{AllAlone, joined_alone}
+use Rattle.ch_laws_calls.specs.FitsFit.{MayAskWell}
+use Rattle.ch_laws_calls.specs.FitsTurns.{NoDials, IsKind}
+use Rattle.ch_laws_calls.proofs.FitsEvents.{AllAlone, joined_alone}
 use Rattle.ch_laws_places.specs.Said.{Piece, said_at}
 use Rattle.ch_laws_places.proofs.Sockets.{WasThere, opened_goes, none_first_goes, told_goes}
 use Rattle.ch_laws_peers.specs.Words.{Placed, sayings}

@@ -41,13 +41,13 @@ use Rattle.ch_laws_race.specs.Scene.{Party, link_of}
 use Rattle.ch_laws_reads.specs.Reads.{IsFresh, IsKept}
 use Rattle.ch_laws_writes.specs.Dues.{due_at}
 use Rattle.ch_laws_writes.specs.Orderly.{IsOrderly}
-use Rattle.ch_laws_fits.specs.Fit.{MayAskWell}
-use Rattle.ch_laws_fits.specs.Turns.{NoDials}
-use Rattle.ch_laws_fits.proofs.Stores.{none_kind}
+use Rattle.ch_laws_calls.specs.FitsFit.{MayAskWell}
+use Rattle.ch_laws_calls.specs.FitsTurns.{NoDials}
+use Rattle.ch_laws_calls.proofs.FitsStores.{none_kind}
 use Rattle.ch_laws_plain_nodes.specs.Does.{Makes}
 use Rattle.ch_laws_plain_nodes.proofs.Calls.{makes}
 use Rattle.ch_laws_plain_nodes.proofs.Steps.{given_so}
-use Rattle.ch_laws_turns.specs.Turns.{told_on, KeepsTurns}
+use Rattle.ch_laws_calls.specs.Turns.{told_on, KeepsTurns}
 use Rattle.ch_laws_peers.specs.Words.{sayings}
 use Rattle.ch_laws_peers.specs.Says.{towards, Says, AllSay}
 use Rattle.ch_laws_peers.specs.Reads.{reads_from, reads, PlacedItem, placed_in, AreTruly, AllCome}

@@ -47,8 +47,8 @@ use Rattle.ch_laws_log.specs.HostEnds.{IsSound}
 use Rattle.ch_laws_log.proofs.Stored.{number_is}
 use Rattle.ch_laws_writes.specs.Dues.{Due, Answering, Framing, due_of, due_staged, due_open, due_at}
 use Rattle.ch_laws_writes.specs.Orderly.{link_at}
-use Rattle.ch_laws_fits.proofs.Halves.{MayHear}
-use Rattle.ch_laws_fits.proofs.Stores.{Stores, stored_again}
+use Rattle.ch_laws_calls.proofs.FitsHalves.{MayHear}
+use Rattle.ch_laws_calls.proofs.FitsStores.{Stores, stored_again}
 use Rattle.ch_laws_links.proofs.Keys.{ended_rest}
 use Rattle.ch_laws_places.specs.Said.{Piece, said_at}
 use Rattle.ch_laws_plain.proofs.ReadsBrought.{own_key as of_host}

@@ -24,7 +24,7 @@ use Rattle.ch_laws_race.specs.Scene.{Party}
 use Rattle.ch_laws_race.specs.Sound.{HasEnd, opener_by}
 use Rattle.ch_laws_race.specs.View.{opener_of}
 use Rattle.ch_laws_calls.specs.Scenes.{IsOfSide, SceneFacts, scene_of}
-use Rattle.ch_laws_scenes.proofs.Held.{is_held}
+use Rattle.ch_laws_calls.proofs.ScenesHeld.{is_held}
 use Rattle.ch_laws_peers.specs.Words.{Placed, words_in, placing, sayings, TrueWords}
 use Rattle.ch_laws_peers.specs.Says.{frames_towards, towards, ArePlaced, Says}
 use Rattle.ch_laws_peers.specs.Reads.{frames_among, AreTruly}

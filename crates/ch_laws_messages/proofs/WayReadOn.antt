@@ -40,8 +40,8 @@ use Rattle.ch_laws_race.proofs.Readings.{other_twice}
 use Rattle.ch_laws_reads.specs.Reads.{AreReadOf, reads_of}
 use Rattle.ch_laws_reads.proofs.Stays.{read_of_spelled}
 use Rattle.ch_laws_places.proofs.Sockets.{reads_for, reads_at_end}
-use Rattle.ch_laws_scenes.proofs.Held.{held_by}
-use Rattle.ch_laws_scenes.proofs.Streams.{reader_at_end}
+use Rattle.ch_laws_calls.proofs.ScenesHeld.{held_by}
+use Rattle.ch_laws_calls.proofs.ScenesStreams.{reader_at_end}
 use Rattle.ch_laws_peers.specs.Words.{Placed, placing, sayings}
 use Rattle.ch_laws_peers.specs.Says.{frames_towards, towards, IsUpOn}
 use Rattle.ch_laws_peers.specs.Reads.{PlacedItem, items_in, places_in, placed_in, item_read, reads, Way, IsWay, ReadsOne, ReadsNone}

@@ -15,7 +15,7 @@ use Rattle.ch_laws_calls.specs.Scenes.{IsPairOf}
 use Rattle.ch_laws_race.specs.Chains.{unposted}
 use Rattle.ch_laws_race.specs.Scene.{Party}
 use Rattle.ch_laws_reads.specs.Reads.{reads_of}
-use Rattle.ch_laws_turns.specs.Turns.{told_on}
+use Rattle.ch_laws_calls.specs.Turns.{told_on}
 use Rattle.ch_laws_peers.specs.Says.{AllSay}
 use Rattle.ch_laws_peers.specs.Reads.{ReadsOne, ReadsNone}
 use Rattle.ch_laws_peers.specs.Standing.{IsOfNodes, Standing}

@@ -31,7 +31,7 @@ use Rattle.ch_laws_log.specs.HostEnds.{steps_in}
 use Rattle.ch_laws_log.proofs.Kept.{one_told}
 use Rattle.ch_laws_log.proofs.Stored.{same_is, self_same, found_end, Distinct}
 use Rattle.ch_laws_log.proofs.WorldEnds.{found_is}
-use Rattle.ch_laws_fits.specs.Turns.{NoDials}
+use Rattle.ch_laws_calls.specs.FitsTurns.{NoDials}
 use Rattle.ch_laws_ids.specs.Runs.{pieces_at, pieces_for}
 use Rattle.ch_laws_ids.proofs.Worlds.{Same, same_self, same_onward, same_change}
 use Rattle.ch_laws_places.specs.Said.{Piece, said_at}

@@ -37,16 +37,16 @@ use Rattle.ch_laws_race.specs.Chains.{steps_told}
 use Rattle.ch_laws_race.proofs.Same.{Same, all_same}
 use Rattle.ch_laws_reads.specs.Reads.{IsKept, Reads, reads_of}
 use Rattle.ch_laws_writes.specs.Dues.{Due, Answering, due_at}
-use Rattle.ch_laws_fits.specs.Fit.{MayAskWell}
-use Rattle.ch_laws_fits.specs.Turns.{NoDials}
-use Rattle.ch_laws_fits.proofs.Ends.{own_by, FlowsThere, flows_there}
-use Rattle.ch_laws_fits.proofs.Stores.{none_kind}
-use Rattle.ch_laws_fits.proofs.Told.{end_kept}
+use Rattle.ch_laws_calls.specs.FitsFit.{MayAskWell}
+use Rattle.ch_laws_calls.specs.FitsTurns.{NoDials}
+use Rattle.ch_laws_calls.proofs.FitsEnds.{own_by, FlowsThere, flows_there}
+use Rattle.ch_laws_calls.proofs.FitsStores.{none_kind}
+use Rattle.ch_laws_calls.proofs.FitsTold.{end_kept}
 use Rattle.ch_laws_places.specs.Said.{Piece, said_at}
 use Rattle.ch_laws_places.proofs.Ends.{ReaderReads, IsKnown}
 use Rattle.ch_laws_places.proofs.Sockets.{pieces_for, reads_for, pieces_of, reads_at_end, WasThere, told_goes}
 use Rattle.ch_laws_plain.proofs.Worlds.{steps_same}
-use Rattle.ch_laws_turns.specs.Turns.{told_on}
+use Rattle.ch_laws_calls.specs.Turns.{told_on}
 use Rattle.ch_race.specs.Pair.{Side, other}
 use Rattle.ch_laws_race.specs.Scene.{Party}
 use Rattle.ch_laws_peers.specs.Words.{sayings}

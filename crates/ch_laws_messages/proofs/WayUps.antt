@@ -39,9 +39,9 @@ use Rattle.ch_laws_race.specs.Sound.{HasEnd, opener_by}
 use Rattle.ch_laws_race.specs.View.{opener_end, target_end, opener_of, sock_of, sock_seen, with_places, place_of, view}
 use Rattle.ch_laws_race.proofs.Readings.{other_twice}
 use Rattle.ch_laws_race.proofs.Sockets.{name_found, end_found, place_found}
-use Rattle.ch_laws_scenes.proofs.Given.{host_is}
+use Rattle.ch_laws_calls.proofs.ScenesGiven.{host_is}
 use Rattle.ch_laws_peers.specs.Says.{IsUpOn}
-use Rattle.ch_laws_users.proofs.Kept.{users_used}
+use Rattle.ch_laws_calls.proofs.UsersKept.{users_used}
 use Rattle.ch_laws_peers.specs.Standing.{IsOfNodes, Standing}
 use Rattle.ch_laws_messages.proofs.WayPairs.{IsOf, is_of, has_end}
 

@@ -15,8 +15,8 @@ use Rattle.ch_laws_bytes.specs.Streams.{Reader, Fits, Spelled, Flows, MayAsk, fi
 use Rattle.ch_laws_reads.specs.Reads.{AreRead, AreReadOf}
 use Rattle.ch_laws_reads.proofs.Stays.{read_of_spelled}
 use Rattle.ch_laws_writes.specs.Dues.{Due, Asking, Answering, Framing}
-use Rattle.ch_laws_fits.specs.Turns.{IsKind}
-use Rattle.ch_laws_fits.proofs.Frames.{follow, spelled_once}
+use Rattle.ch_laws_calls.specs.FitsTurns.{IsKind}
+use Rattle.ch_laws_calls.proofs.FitsFrames.{follow, spelled_once}
 use Rattle.ch_laws_places.specs.Said.{Piece, bytes_in}
 use Rattle.ch_laws_places.specs.Said as pieces_said
 use Rattle.ch_laws_places.proofs.Ends.{ReaderReads, PlacesGo}

@@ -19,7 +19,7 @@ use Rattle.ch_race.specs.Pair.{Side, other}
 use Rattle.ch_laws_race.specs.Scene.{Party}
 use Rattle.ch_laws_calls.specs.Calls.{Claim, with_host}
 use Rattle.ch_laws_calls.specs.Scenes.{IsPairOf}
-use Rattle.ch_laws_turns.specs.Turns.{told_on}
+use Rattle.ch_laws_calls.specs.Turns.{told_on}
 use Rattle.ch_laws_messages.specs.GotReadingGoes.{KnownGot}
 use Rattle.ch_laws_messages.specs.CarriedNexts.{GetsNext, GotsBelow}
 use Rattle.ch_laws_messages.specs.CarriedWritten.{AllWritten}

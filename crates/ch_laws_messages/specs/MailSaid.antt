@@ -19,7 +19,7 @@ use Rattle.ch_model.specs.NodeState.{NodeState, ToTarget, Arrived}
 use Rattle.ch_model.specs.WorldState.{Cell, World}
 use Rattle.ch_laws_calls.specs.Calls.{Claim, with_host}
 use Rattle.ch_laws_plain.specs.ReadsReading.{posts_in}
-use Rattle.ch_laws_turns.specs.Turns.{told_on}
+use Rattle.ch_laws_calls.specs.Turns.{told_on}
 use Rattle.ch_laws_messages.specs.MailMail.{is_gone}
 
 -- The host of the cell has read a payload on a connection that arrived at the node of an endpoint, bound to messages between these

@@ -15,8 +15,8 @@ use Rattle.ch_model.specs.HostWrites.{is_up}
 use Rattle.ch_model.specs.NodeIds.{process_id, is_living}
 use Rattle.ch_model.specs.NodeState.{NodeState}
 use Rattle.ch_model.specs.WorldState.{Cell}
-use Rattle.ch_laws_fits.proofs.Stores.{Stores}
-use Rattle.ch_laws_fits.specs.Turns.{NoDials}
+use Rattle.ch_laws_calls.proofs.FitsStores.{Stores}
+use Rattle.ch_laws_calls.specs.FitsTurns.{NoDials}
 use Rattle.ch_laws_ids.specs.Runs.{pieces_at}
 use Rattle.ch_laws_log.specs.HostEnds.{steps_in}
 use Rattle.ch_laws_plain.specs.Talks.{MaySpell, IsUpThere}

@@ -9,7 +9,7 @@ use Rattle.ch_model.specs.HostState.{Link, HostState}
 use Rattle.ch_model.specs.HostSteps.{link_with}
 use Rattle.ch_model.specs.HostWrites.{is_up}
 use Rattle.ch_laws_writes.proofs.Ordered.{is_key}
-use Rattle.ch_laws_fits.specs.Turns.{NoDials}
+use Rattle.ch_laws_calls.specs.FitsTurns.{NoDials}
 use Rattle.ch_laws_ids.specs.Runs.{pieces_at}
 use Rattle.ch_laws_plain.specs.Talks.{MaySpell, IsUpThere}
 use Rattle.ch_laws_peers.specs.Words.{Placed, waiting_as}

@@ -24,8 +24,8 @@ use Rattle.ch_laws_calls.specs.Scenes.{IsPairOf}
 use Rattle.ch_laws_log.specs.HostEnds.{steps_in}
 use Rattle.ch_laws_race.specs.Scene.{Party}
 use Rattle.ch_laws_reads.specs.Reads.{reads_of}
-use Rattle.ch_laws_fits.specs.Turns.{NoDials}
-use Rattle.ch_laws_turns.specs.Turns.{told_on, IsAsked, end_in}
+use Rattle.ch_laws_calls.specs.FitsTurns.{NoDials}
+use Rattle.ch_laws_calls.specs.Turns.{told_on, IsAsked, end_in}
 use Rattle.ch_laws_peers.specs.Reads.{PlacedItem}
 use Rattle.ch_laws_peers.specs.Says.{AllSay}
 use Rattle.ch_laws_peers.specs.Standing.{Standing}

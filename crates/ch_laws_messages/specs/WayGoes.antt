@@ -18,7 +18,7 @@ use Rattle.ch_model.specs.WorldState.{WorldSocket, World}
 use Rattle.ch_laws_bytes.specs.Streams.{Reader, reader_of, first_at, is_over}
 use Rattle.ch_laws_reads.specs.Reads.{Reads}
 use Rattle.ch_laws_writes.specs.Dues.{Due, due_at}
-use Rattle.ch_laws_fits.specs.Turns.{IsKind}
+use Rattle.ch_laws_calls.specs.FitsTurns.{IsKind}
 use Rattle.ch_laws_places.specs.Said.{Piece, said_at}
 use Rattle.ch_laws_places.proofs.Sockets.{reads_at_end}
 use Rattle.ch_race.specs.Pair.{Side, other}

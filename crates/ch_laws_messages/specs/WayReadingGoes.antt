@@ -28,7 +28,7 @@ use Rattle.ch_laws_many.specs.ManyLines.{is_of_many}
 use Rattle.ch_laws_race.specs.Scene.{Party}
 use Rattle.ch_laws_calls.specs.Calls.{Claim, Both, with_host, done_at, IsCalled, IsHeldBy, IsIn, AllRead, joined_in, come_in, fed_in}
 use Rattle.ch_laws_calls.specs.Scenes.{IsPairOf}
-use Rattle.ch_laws_turns.specs.Turns.{told_on, IsAsked, end_in}
+use Rattle.ch_laws_calls.specs.Turns.{told_on, IsAsked, end_in}
 use Rattle.ch_laws_peers.specs.Words.{Placed}
 use Rattle.ch_laws_peers.specs.Says.{towards, AllSay}
 use Rattle.ch_laws_peers.specs.Reads.{reads, ReadsOne, ReadsNone, AllCome}

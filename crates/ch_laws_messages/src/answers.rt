@@ -23,7 +23,7 @@ ghost use Rattle.ch_laws_spelled.specs.Spelled.{SaysWell};
 ghost use Rattle.ch_laws_acting.specs.Logs.{is_answered_by_lives};
 ghost use Rattle.ch_laws_messages.specs.MailGiven.{AtEachLine};
 ghost use Rattle.ch_laws_messages.specs.MailAnswers.{is_answered_take};
-ghost use Rattle.ch_laws_turns.specs.Turns.{KeepsTurns};
+ghost use Rattle.ch_laws_calls.specs.Turns.{KeepsTurns};
 ghost use Rattle.ch_laws_peers.specs.Standing.{IsOfNodes};
 ghost use Rattle.ch_laws_messages.specs.SendsSends.{is_answered_send, SaysSmall, AllGive, FrontsStand};
 ghost use Rattle.ch_laws_messages.specs.SendsTurns.{Told, EndsAskNone, ItemsAskNone};

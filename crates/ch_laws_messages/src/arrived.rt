@@ -12,7 +12,7 @@ ghost use Rattle.ch_reader.specs.declared.item.Front.TheVariants.{Whole};
 ghost use Rattle.ch_reader.specs.declared.item.Item.{Item};
 ghost use Rattle.ch_model.specs.declared.line.Line.{Line};
 ghost use Rattle.ch_model.specs.World.{world_new};
-ghost use Rattle.ch_laws_turns.specs.Turns.{KeepsTurns};
+ghost use Rattle.ch_laws_calls.specs.Turns.{KeepsTurns};
 ghost use Rattle.ch_laws_peers.specs.Standing.{IsOfNodes, Standing};
 ghost use Rattle.ch_laws_messages.specs.WayReadingGoes.{ReadingGoes};
 ghost use Rattle.ch_laws_messages.specs.GotReadingGoes.{KnownGot};

@@ -15,7 +15,7 @@ ghost use Rattle.ch_model.specs.declared.local.LocalEntry.{LocalEntry};
 ghost use Rattle.ch_model.specs.AccountsFrames.{Saying};
 ghost use Rattle.ch_model.specs.CellSteps.{acts_on};
 ghost use Rattle.ch_model.specs.WorldState.{Cell};
-ghost use Rattle.ch_laws_fits.specs.Turns.{NoDials};
+ghost use Rattle.ch_laws_calls.specs.FitsTurns.{NoDials};
 ghost use Rattle.ch_laws_log.specs.HostEnds.{steps_in};
 ghost use Rattle.ch_laws_plain.specs.Talks.{MaySpell};
 ghost use Rattle.ch_laws_writes.specs.Orderly.{IsOrderly};

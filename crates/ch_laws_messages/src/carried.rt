@@ -15,7 +15,7 @@ ghost use Rattle.ch_model.specs.declared.line.Line.{Line};
 ghost use Rattle.ch_model.specs.World.{world_new};
 ghost use Rattle.ch_model.specs.WorldState.{World};
 ghost use Rattle.ch_laws_calls.specs.Calls.{Both};
-ghost use Rattle.ch_laws_turns.specs.Turns.{KeepsTurns};
+ghost use Rattle.ch_laws_calls.specs.Turns.{KeepsTurns};
 ghost use Rattle.ch_laws_peers.specs.Says.{AllSay};
 ghost use Rattle.ch_laws_peers.specs.Standing.{IsOfNodes, Standing};
 ghost use Rattle.ch_laws_messages.specs.CarriedInTime.{AllInTime};

@@ -11,7 +11,7 @@ ghost use Rattle.std.specs.Prelude.{List, []};
 ghost use Rattle.ch_model.specs.declared.line.Line.{Line};
 ghost use Rattle.ch_model.specs.World.{world_new};
 ghost use Rattle.ch_laws_calls.specs.Calls.{Both};
-ghost use Rattle.ch_laws_turns.specs.Turns.{KeepsTurns};
+ghost use Rattle.ch_laws_calls.specs.Turns.{KeepsTurns};
 ghost use Rattle.ch_laws_peers.specs.Standing.{IsOfNodes};
 ghost use Rattle.ch_laws_messages.specs.WayReadingGoes.{ReadingGoes};
 ghost use Rattle.ch_laws_messages.specs.GotReadingGoes.{KnownGot};

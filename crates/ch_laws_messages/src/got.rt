@@ -19,7 +19,7 @@ ghost use Rattle.ch_model.specs.World.{world_new};
 ghost use Rattle.ch_model.specs.WorldState.{World};
 ghost use Rattle.ch_laws_lives.specs.Logs.{AreAllowed};
 ghost use Rattle.ch_laws_plain_logs.specs.Plain.{IsPlain};
-ghost use Rattle.ch_laws_turns.specs.Turns.{KeepsTurns};
+ghost use Rattle.ch_laws_calls.specs.Turns.{KeepsTurns};
 ghost use Rattle.ch_laws_peers.specs.Reads.{AllGet};
 ghost use Rattle.ch_laws_peers.specs.Standing.{IsOfNodes};
 ghost use Rattle.ch_laws_messages.specs.WayReadingGoes.{ReadingGoes};

@@ -34,7 +34,7 @@ ghost use Rattle.ch_laws_calls.specs.Calls.{Both, with_host};
 ghost use Rattle.ch_laws_many.specs.ManyLines.{AreNamedApart};
 ghost use Rattle.ch_laws_many.proofs.Reached.{IsJournal};
 ghost use Rattle.ch_laws_plain_logs.specs.Plain.{said_by};
-ghost use Rattle.ch_laws_turns.specs.Turns.{told_on, IsAsked, end_in, KeepsTurns};
+ghost use Rattle.ch_laws_calls.specs.Turns.{told_on, IsAsked, end_in, KeepsTurns};
 ghost use Rattle.ch_laws_messages.specs.MailAnswers.{is_answered_take};
 ghost use Rattle.ch_laws_messages.specs.MailGiven.{Given, Follows, AtEachLine};
 ghost use Rattle.ch_laws_messages.specs.MailMail.{AllMail, TakesFirst, GoesOn};

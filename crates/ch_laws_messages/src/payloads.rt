@@ -15,7 +15,7 @@ ghost use Rattle.ch_model.specs.Logs.{each};
 ghost use Rattle.ch_model.specs.World.{world_new};
 ghost use Rattle.ch_model.specs.WorldState.{World};
 ghost use Rattle.ch_laws_calls.specs.Calls.{Both};
-ghost use Rattle.ch_laws_turns.specs.Turns.{KeepsTurns};
+ghost use Rattle.ch_laws_calls.specs.Turns.{KeepsTurns};
 ghost use Rattle.ch_laws_plain_logs.specs.Plain.{WritesNoNodes};
 ghost use Rattle.ch_laws_peers.specs.Says.{AllSay};
 ghost use Rattle.ch_laws_peers.specs.Standing.{IsOfNodes, Standing};

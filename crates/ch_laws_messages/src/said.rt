@@ -49,7 +49,7 @@ ghost use Rattle.ch_laws_calls.specs.Calls.{done_at, with_host, IsCalled, IsIn, 
 ghost use Rattle.ch_laws_calls.specs.Tables.{Table, frames_on};
 ghost use Rattle.ch_laws_ids.specs.Runs.{AllRun};
 ghost use Rattle.ch_laws_plain_logs.specs.Plain.{IsPlain};
-ghost use Rattle.ch_laws_turns.specs.Turns.{KeepsTurns, IsAsked, end_in, told_on};
+ghost use Rattle.ch_laws_calls.specs.Turns.{KeepsTurns, IsAsked, end_in, told_on};
 ghost use Rattle.ch_laws_spelled.specs.Spelled as spelled;
 ghost use Rattle.ch_laws_peers.specs.Words.{Placed, words_in, datas_in, sayings, opens_one};
 ghost use Rattle.ch_laws_peers.specs.Says.{Says, AllSay, has_said};

@@ -27,7 +27,7 @@ ghost use Rattle.ch_laws_race.specs.Scene.{Party, link_of};
 ghost use Rattle.ch_laws_calls.specs.Scenes.{IsPairOf, scene_of};
 ghost use Rattle.ch_laws_log.specs.Lines.{AllLines};
 ghost use Rattle.ch_laws_many.specs.ManyLines.{is_of_many};
-ghost use Rattle.ch_laws_turns.specs.Turns.{KeepsTurns};
+ghost use Rattle.ch_laws_calls.specs.Turns.{KeepsTurns};
 ghost use Rattle.ch_laws_plain_logs.specs.Plain.{IsPlain, said_by};
 ghost use Rattle.ch_laws_peers.specs.Says.{Says};
 ghost use Rattle.ch_laws_peers.specs.Standing.{IsOfNodes, Standing};

@@ -16,7 +16,7 @@ ghost use Rattle.ch_model.specs.AccountsFrames.{Saying};
 ghost use Rattle.ch_model.specs.World.{world_new};
 ghost use Rattle.ch_laws_bytes.specs.Streams.{Reader, first_at};
 ghost use Rattle.ch_laws_calls.specs.Calls.{Both};
-ghost use Rattle.ch_laws_turns.specs.Turns.{KeepsTurns};
+ghost use Rattle.ch_laws_calls.specs.Turns.{KeepsTurns};
 ghost use Rattle.ch_laws_peers.specs.Reads.{UnderWay, reads_expecting, Way, AllCome};
 ghost use Rattle.ch_laws_peers.specs.Says.{AllSay};
 ghost use Rattle.ch_laws_peers.specs.Standing.{IsOfNodes, Standing};

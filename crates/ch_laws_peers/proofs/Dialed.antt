@@ -33,9 +33,9 @@ use Rattle.ch_laws_plain.proofs.MeetsBegins.{peers_read_plain}
 use Rattle.ch_laws_plain.proofs.ReadsAlone.{next_dials_none, ended_dials_none}
 use Rattle.ch_laws_plain.proofs.ReadsTurns as reads
 use Rattle.ch_laws_raced.specs.Given.{All}
-use Rattle.ch_laws_turns.specs.Turns.{KeepsTurns}
-use Rattle.ch_laws_turns.proofs.Together.{beside}
-use Rattle.ch_laws_users.proofs.Kept.{users_used}
+use Rattle.ch_laws_calls.specs.Turns.{KeepsTurns}
+use Rattle.ch_laws_calls.proofs.TurnsTogether.{beside}
+use Rattle.ch_laws_calls.proofs.UsersKept.{users_used}
 use Rattle.ch_laws_writes.specs.Orderly.{IsOrderly}
 
 -- hosts and world agree, and nodes with their hosts

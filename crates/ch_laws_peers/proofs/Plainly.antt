@@ -29,7 +29,7 @@ use Rattle.ch_laws_plain_nodes.specs.Plain.{IsPlain as IsPlainNode}
 use Rattle.ch_laws_plain_nodes.proofs.Calls.{makes, told_does}
 use Rattle.ch_laws_plain_nodes.proofs.Commands.{on_command}
 use Rattle.ch_laws_plain_nodes.proofs.Steps.{given_so}
-use Rattle.ch_laws_turns.specs.Turns.{end_in, KeepsTurns}
+use Rattle.ch_laws_calls.specs.Turns.{end_in, KeepsTurns}
 use Rattle.ch_laws_raced.specs.UnbrokenBreaks.{is_no_break, NoBreaks}
 use Rattle.ch_laws_peers.proofs.Dialed.{Known, item_reads, end_reads}
 use Rattle.ch_laws_peers.proofs.Told.{no_notes, told_plain, plain_told}

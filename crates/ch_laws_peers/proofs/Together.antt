@@ -14,17 +14,17 @@ use Rattle.ch_laws_plain_logs.specs.Plain.{IsPlain}
 use Rattle.ch_laws_plain.proofs.MeetsMeets.{meets_kept, fresh_meets}
 use Rattle.ch_laws_raced.specs.Given.{All}
 use Rattle.ch_laws_raced.proofs.Together.{all_is_kept, fresh_all, lively_kept_too, given_then}
-use Rattle.ch_laws_turns.specs.Turns.{KeepsTurns}
-use Rattle.ch_laws_turns.proofs.Lines.{all_turns}
-use Rattle.ch_laws_turns.proofs.OfCalls.{by_calls}
-use Rattle.ch_laws_turns.proofs.Together.{combined, alike, weaker, beside, given_first}
+use Rattle.ch_laws_calls.specs.Turns.{KeepsTurns}
+use Rattle.ch_laws_calls.proofs.TurnsLines.{all_turns}
+use Rattle.ch_laws_calls.proofs.TurnsOfCalls.{by_calls}
+use Rattle.ch_laws_calls.proofs.TurnsTogether.{combined, alike, weaker, beside, given_first}
 use Rattle.ch_laws_raced.specs.UnbrokenBreaks.{NoBreaks}
 use Rattle.ch_laws_raced.specs.UnbrokenGiven as unbroken
 use Rattle.ch_laws_raced.specs.OnceOnce.{DialsOnce}
 use Rattle.ch_laws_raced.proofs.OnceKept.{none_dialed}
 use Rattle.ch_laws_raced.proofs.OnceTogether.{once_kept_too}
 use Rattle.ch_laws_raced.proofs.UnbrokenKept.{unbroken_kept, nothing_broken}
-use Rattle.ch_laws_scenes.proofs.Start.{raced_at_start}
+use Rattle.ch_laws_calls.proofs.ScenesStart.{raced_at_start}
 use Rattle.ch_laws_live.proofs.Kept.{nothing_lives}
 use Rattle.ch_laws_plain.proofs.Start.{fresh_plain}
 use Rattle.ch_laws_peers.proofs.Plainly.{plainly_kept}

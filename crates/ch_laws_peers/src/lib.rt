@@ -18,7 +18,7 @@ ghost use Rattle.ch_model.specs.WorldState.{World};
 ghost use Rattle.ch_laws_calls.specs.Calls.{Anything};
 ghost use Rattle.ch_laws_calls.specs.Peers.{Peers};
 ghost use Rattle.ch_laws_plain_logs.specs.Plain.{IsPlain};
-ghost use Rattle.ch_laws_turns.specs.Turns.{KeepsTurns};
+ghost use Rattle.ch_laws_calls.specs.Turns.{KeepsTurns};
 ghost use Rattle.ch_laws_raced.specs.UnbrokenBreaks.{NoBreaks};
 ghost use Rattle.ch_laws_peers.specs.Standing.{IsOfNodes, Standing};
 ghost use Rattle.ch_laws_peers.specs.Fair.{IsFair};

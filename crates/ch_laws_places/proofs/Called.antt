@@ -39,9 +39,9 @@ use Rattle.ch_laws_writes.specs.Orderly.{IsOrderly, AllWrite}
 use Rattle.ch_laws_writes.proofs.Calls as write_calls
 use Rattle.ch_laws_writes.proofs.Events as write_events
 use Rattle.ch_laws_writes.proofs.Items as write_items
-use Rattle.ch_laws_fits.specs.Turns.{NoDials, DialsAlone}
-use Rattle.ch_laws_fits.proofs.Events.{AllAlone, joined_alone}
-use Rattle.ch_laws_fits.proofs.Stores.{no_dials}
+use Rattle.ch_laws_calls.specs.FitsTurns.{NoDials, DialsAlone}
+use Rattle.ch_laws_calls.proofs.FitsEvents.{AllAlone, joined_alone}
+use Rattle.ch_laws_calls.proofs.FitsStores.{no_dials}
 use Rattle.ch_laws_places.specs.Places.{Placed}
 use Rattle.ch_laws_places.specs.Said.{said_at, AllSaid, Says, AllSay, Written}
 use Rattle.ch_laws_places.proofs.Calls as own_calls

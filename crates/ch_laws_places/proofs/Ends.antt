@@ -22,9 +22,9 @@ use Rattle.ch_laws_log.proofs.Stored.{number_is}
 use Rattle.ch_laws_reads.specs.Reads.{AreRead, AreReadOf, IsKept, Reads, reads_of}
 use Rattle.ch_laws_reads.proofs.Stays.{read_of_spelled}
 use Rattle.ch_laws_writes.specs.Dues.{Due, Asking, Answering, Framing, due_at}
-use Rattle.ch_laws_fits.specs.Turns.{IsKind}
-use Rattle.ch_laws_fits.proofs.Ends.{own_by}
-use Rattle.ch_laws_fits.proofs.Frames.{follow, spelled_once}
+use Rattle.ch_laws_calls.specs.FitsTurns.{IsKind}
+use Rattle.ch_laws_calls.proofs.FitsEnds.{own_by}
+use Rattle.ch_laws_calls.proofs.FitsFrames.{follow, spelled_once}
 use Rattle.ch_laws_places.specs.Places.{AllStand, Carried, CarriedAt}
 use Rattle.ch_laws_places.specs.Said.{Piece, said_at, bytes_in, places_in, Written}
 use Rattle.ch_laws_places.proofs.Sockets.{pieces_for, reads_for}

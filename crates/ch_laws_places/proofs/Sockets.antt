@@ -31,7 +31,7 @@ use Rattle.ch_laws_log.proofs.Stored.{same_is, self_same, find_stored, Distinct}
 use Rattle.ch_laws_log.proofs.WorldEnds.{found_is}
 use Rattle.ch_laws_reads.specs.Reads.{reads_of}
 use Rattle.ch_laws_reads.proofs.HostReads.{reads_append}
-use Rattle.ch_laws_fits.specs.Turns.{NoDials}
+use Rattle.ch_laws_calls.specs.FitsTurns.{NoDials}
 use Rattle.ch_laws_places.specs.Said.{Piece, said_at, bytes_in, places_in}
 
 -- ---- what is read and written

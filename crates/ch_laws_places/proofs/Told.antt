@@ -33,10 +33,10 @@ use Rattle.ch_laws_ends.proofs.Told.{Sure}
 use Rattle.ch_laws_log.specs.HostEnds.{stage_at, AreNewTo}
 use Rattle.ch_laws_log.proofs.Stored.{number_same, find_stored}
 use Rattle.ch_laws_reads.specs.Reads.{IsFresh}
-use Rattle.ch_laws_fits.specs.Fit.{MayAskWell}
-use Rattle.ch_laws_fits.specs.Turns.{NoDials, DialsAlone}
-use Rattle.ch_laws_fits.proofs.Ends.{own_by, FlowsThere, flows_there}
-use Rattle.ch_laws_fits.proofs.Told.{end_kept, asked_before}
+use Rattle.ch_laws_calls.specs.FitsFit.{MayAskWell}
+use Rattle.ch_laws_calls.specs.FitsTurns.{NoDials, DialsAlone}
+use Rattle.ch_laws_calls.proofs.FitsEnds.{own_by, FlowsThere, flows_there}
+use Rattle.ch_laws_calls.proofs.FitsTold.{end_kept, asked_before}
 use Rattle.ch_laws_places.specs.Places.{Carried, CarriedAt, EndPlaced, HostPlaced, Placed}
 use Rattle.ch_laws_places.specs.Said.{Written}
 use Rattle.ch_laws_places.proofs.Ends.{ReaderReads, carried_at, Calls, IsKnown, reader_reads, writer_writes}

@@ -24,8 +24,8 @@ use Rattle.ch_laws_bytes.specs.Streams.{AsksNothing}
 use Rattle.ch_laws_links.proofs.Keys.{ended_rest}
 use Rattle.ch_laws_writes.specs.Dues.{Due}
 use Rattle.ch_laws_writes.specs.Orderly.{AreFrames, link_at}
-use Rattle.ch_laws_fits.specs.Turns.{NoDials}
-use Rattle.ch_laws_fits.proofs.Stores.{waits_alone, no_dials}
+use Rattle.ch_laws_calls.specs.FitsTurns.{NoDials}
+use Rattle.ch_laws_calls.proofs.FitsStores.{waits_alone, no_dials}
 use Rattle.ch_laws_places.specs.Places.{StandsBy, WaitsPlaced, LinksPlaced, HostPlaced}
 use Rattle.ch_laws_places.specs.Said.{IsSaid, AllSaid, AllSay}
 

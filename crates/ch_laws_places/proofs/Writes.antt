@@ -17,8 +17,8 @@ use Rattle.ch_model.specs.declared.step.Step.TheVariants as steps
 use Rattle.ch_laws_bytes.specs.Streams.{AsksNothing}
 use Rattle.ch_laws_log.proofs.Stored.{number_is}
 use Rattle.ch_laws_writes.specs.Dues.{Due, Asking, Answering, Framing, due_past, IsDue, AllDue}
-use Rattle.ch_laws_fits.specs.Turns.{NoDials, IsKind}
-use Rattle.ch_laws_fits.proofs.Stores.{none_kind}
+use Rattle.ch_laws_calls.specs.FitsTurns.{NoDials, IsKind}
+use Rattle.ch_laws_calls.proofs.FitsStores.{none_kind}
 use Rattle.ch_laws_places.specs.Places.{StandsBy}
 use Rattle.ch_laws_places.specs.Said.{Piece, said_at, bytes_in, SpellsData, IsSaid, AllSaid, Written}
 

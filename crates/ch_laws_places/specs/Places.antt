@@ -21,7 +21,7 @@ use Rattle.ch_model.specs.WorldSockets.{end_of, is_socket_named}
 use Rattle.ch_model.specs.WorldState.{Cell, WorldSocket, World}
 use Rattle.ch_laws_bytes.specs.Streams.{Reader, reader_of, is_over}
 use Rattle.ch_laws_calls.specs.Calls.{IsHeldBy}
-use Rattle.ch_laws_fits.specs.Fit.{MayAskWell}
+use Rattle.ch_laws_calls.specs.FitsFit.{MayAskWell}
 
 -- ---- items
 

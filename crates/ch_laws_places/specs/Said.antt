@@ -12,7 +12,7 @@ use Rattle.ch_model.specs.declared.step.Step.TheVariants as steps
 use Rattle.ch_model.specs.HostState.{HostState}
 use Rattle.ch_laws_bytes.specs.Streams.{AsksNothing}
 use Rattle.ch_laws_writes.specs.Dues.{Due}
-use Rattle.ch_laws_fits.specs.Turns.{DialsAlone, IsKind}
+use Rattle.ch_laws_calls.specs.FitsTurns.{DialsAlone, IsKind}
 use Rattle.ch_laws_places.specs.Places.{AllStand, HostPlaced}
 
 -- bytes that are written, and the place of the message that they carry

@@ -34,8 +34,8 @@ use Rattle.ch_laws_log.proofs.HostTold.{find_stored}
 use Rattle.ch_laws_writes.specs.Orderly.{LinkFits, IsOrderly}
 use Rattle.ch_laws_writes.proofs.Calls.{gives, closes_one, has_id}
 use Rattle.ch_laws_writes.proofs.Ordered.{at_stored, found_own}
-use Rattle.ch_laws_fits.specs.Turns.{bytes_at}
-use Rattle.ch_laws_fits.proofs.Stores.{Stores, stored, stored_again}
+use Rattle.ch_laws_calls.specs.FitsTurns.{bytes_at}
+use Rattle.ch_laws_calls.proofs.FitsStores.{Stores, stored, stored_again}
 use Rattle.ch_laws_plain.specs.Talks.{frames_of, KeepsSockets, Adds, Connects, Carried, Sends, Closes}
 
 -- whatever was done

@@ -36,7 +36,7 @@ use Rattle.ch_laws_connections.specs.Tables.{given_so, LinksApart}
 use Rattle.ch_laws_connections.specs.Senders.{Sender, sender_of, once, marks, pair_has, node_has, total, open_at, open_after}
 use Rattle.ch_laws_connections.specs.Fits.{FitsAs}
 use Rattle.ch_laws_connections.proofs.Acts.{After, act_fits}
-use Rattle.ch_laws_fits.specs.Turns.{NoDials}
+use Rattle.ch_laws_calls.specs.FitsTurns.{NoDials}
 use Rattle.ch_laws_plain_nodes.specs.Acts.{AreNotes}
 use Rattle.ch_laws_plain_nodes.specs.Does.{SendsAway, pair_between, said_note, said_on, sent_acts, sent_mark, said_pair}
 use Rattle.ch_laws_plain.proofs.Opens.{IsAlone}

@@ -25,7 +25,7 @@ use Rattle.ch_laws_log.specs.Declared.{is_declared}
 use Rattle.ch_laws_log.specs.HostEnds.{steps_in}
 use Rattle.ch_laws_bytes.proofs.Told.{told_names}
 use Rattle.ch_laws_calls.specs.Peers.{is_of_peers}
-use Rattle.ch_laws_fits.specs.Turns.{NoDials}
+use Rattle.ch_laws_calls.specs.FitsTurns.{NoDials}
 
 -- these two addresses are of two nodes of the journal
 abbrev pub are_peers : Names → Address → Address → Bool

@@ -8,7 +8,7 @@ use Rattle.ch_laws_many.proofs.Reached.{IsJournal}
 use Rattle.ch_laws_bytes.specs.Streams.{AreAddresses}
 use Rattle.ch_laws_calls.specs.Calls.{Claim}
 use Rattle.ch_laws_calls.specs.Peers.{Peers}
-use Rattle.ch_laws_turns.specs.Turns.{KeepsTurns}
+use Rattle.ch_laws_calls.specs.Turns.{KeepsTurns}
 use Rattle.ch_laws_plain.specs.AsksGiven.{Given, EndsDialNone, ItemsDialNone}
 use Rattle.ch_laws_plain.proofs.AsksPeers.{marked_peers, made_peers, asked_peers, joined_peers, came_peers, fed_peers, ended_peers, item_peers}
 

@@ -44,9 +44,9 @@ use Rattle.ch_laws_connections.specs.Fits.{CellHolds}
 use Rattle.ch_laws_calls.specs.Calls.{with_host, done_at, IsCalled, joined_in, come_in, fed_in}
 use Rattle.ch_laws_calls.specs.Peers.{is_of_peers, Peers}
 use Rattle.ch_laws_calls.specs.Sound.{Sound}
-use Rattle.ch_laws_fits.specs.Turns.{NoDials}
-use Rattle.ch_laws_fits.proofs.Events.{AllAlone, joined_alone}
-use Rattle.ch_laws_turns.specs.Turns.{told_on, IsAsked, end_in}
+use Rattle.ch_laws_calls.specs.FitsTurns.{NoDials}
+use Rattle.ch_laws_calls.proofs.FitsEvents.{AllAlone, joined_alone}
+use Rattle.ch_laws_calls.specs.Turns.{told_on, IsAsked, end_in}
 use Rattle.ch_laws_plain.specs.Plain.{WorldIsPlain}
 use Rattle.ch_laws_plain.specs.AsksAsks.{DialsOnce, goes_to}
 use Rattle.ch_laws_plain.proofs.AsksCommands.{goes_declared}

@@ -40,7 +40,7 @@ use Rattle.ch_laws_connections.proofs.CellSteps.{room_fits}
 use Rattle.ch_laws_connections.proofs.Does as does
 use Rattle.ch_laws_connections.proofs.Nodes as agrees
 use Rattle.ch_laws_calls.specs.Sound.{Sound}
-use Rattle.ch_laws_turns.specs.Turns.{IsAsked, end_in}
+use Rattle.ch_laws_calls.specs.Turns.{IsAsked, end_in}
 use Rattle.ch_laws_plain_nodes.specs.Acts.{OpensTo}
 use Rattle.ch_laws_plain_nodes.specs.Does.{Does, Makes}
 use Rattle.ch_laws_plain_nodes.specs.Plain.{IsPlain, IsPlainCommand}

@@ -29,8 +29,8 @@ use Rattle.ch_laws_writes.proofs.Ordered.{at_stored}
 use Rattle.ch_laws_connections.specs.Tables.{given_at, open_in}
 use Rattle.ch_laws_connections.proofs.GivenIn.{some_open}
 use Rattle.ch_laws_connections.proofs.HostCalls.{IsCarried, carried}
-use Rattle.ch_laws_fits.specs.Turns.{NoDials}
-use Rattle.ch_laws_fits.proofs.Stores.{stored_again}
+use Rattle.ch_laws_calls.specs.FitsTurns.{NoDials}
+use Rattle.ch_laws_calls.proofs.FitsStores.{stored_again}
 use Rattle.ch_laws_plain.proofs.Opens.{IsAlone}
 
 -- ---- what is told of one link

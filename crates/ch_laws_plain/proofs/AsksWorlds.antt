@@ -22,7 +22,7 @@ use Rattle.ch_laws_bytes.proofs.Lines.{own_of}
 use Rattle.ch_laws_reads.specs.Reads.{IsFresh}
 use Rattle.ch_laws_connections.specs.Fits.{CellHolds}
 use Rattle.ch_laws_calls.specs.Sound.{Sound}
-use Rattle.ch_laws_turns.specs.Turns.{told_on, IsAsked, end_in}
+use Rattle.ch_laws_calls.specs.Turns.{told_on, IsAsked, end_in}
 use Rattle.ch_laws_plain.specs.Plain.{WorldIsPlain}
 use Rattle.ch_laws_plain.proofs.Dials.{dial_plain}
 use Rattle.ch_laws_plain.proofs.Worlds.{turn_plain}

@@ -42,10 +42,10 @@ use Rattle.ch_laws_log.proofs.Stored.{find_stored}
 use Rattle.ch_laws_reads.specs.Reads.{IsFresh}
 use Rattle.ch_laws_race.specs.Chains.{steps_told}
 use Rattle.ch_laws_race.proofs.Same.{Same, all_same}
-use Rattle.ch_laws_fits.specs.Fit.{frames_in, MayAskWell}
-use Rattle.ch_laws_fits.proofs.Frames.{spelled_once}
-use Rattle.ch_laws_fits.proofs.Sockets.{SocketGoes, dial_rests}
-use Rattle.ch_laws_turns.specs.Turns.{told_on}
+use Rattle.ch_laws_calls.specs.FitsFit.{frames_in, MayAskWell}
+use Rattle.ch_laws_calls.proofs.FitsFrames.{spelled_once}
+use Rattle.ch_laws_calls.proofs.FitsSockets.{SocketGoes, dial_rests}
+use Rattle.ch_laws_calls.specs.Turns.{told_on}
 use Rattle.ch_laws_plain.specs.Streams.{PlainOn}
 use Rattle.ch_laws_plain.specs.Talks.{HostIsPlain}
 use Rattle.ch_laws_plain.specs.Plain.{is_unread_of, arrived_in, id_for, pending_for, pending_by, pending_in, pending_at, pending_there, pending_of, CellIsPlain, PlainIn, PlainAt, EndIsPlain, WorldIsPlain}

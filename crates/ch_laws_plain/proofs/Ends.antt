@@ -27,13 +27,13 @@ use Rattle.ch_laws_log.proofs.Stored.{number_is}
 use Rattle.ch_laws_reads.specs.Reads.{AreReadOf}
 use Rattle.ch_laws_reads.proofs.Stays.{read_of_spelled}
 use Rattle.ch_laws_writes.specs.Dues.{Due, Asking, Answering, Framing, due_at}
-use Rattle.ch_laws_fits.specs.Fit.{frames_in, MayAskWell}
-use Rattle.ch_laws_fits.specs.Turns.{bytes_at, IsKind}
-use Rattle.ch_laws_fits.proofs.Ends.{own_by, FlowsThere, flows_there, IsKept}
-use Rattle.ch_laws_fits.proofs.Frames.{in_append, follow, spelled_once}
-use Rattle.ch_laws_fits.proofs.Sockets.{bytes_for, bytes_of, WasThere}
-use Rattle.ch_laws_fits.proofs.Stores.{none_kind}
-use Rattle.ch_laws_fits.proofs.Told.{end_kept, asked_before}
+use Rattle.ch_laws_calls.specs.FitsFit.{frames_in, MayAskWell}
+use Rattle.ch_laws_calls.specs.FitsTurns.{bytes_at, IsKind}
+use Rattle.ch_laws_calls.proofs.FitsEnds.{own_by, FlowsThere, flows_there, IsKept}
+use Rattle.ch_laws_calls.proofs.FitsFrames.{in_append, follow, spelled_once}
+use Rattle.ch_laws_calls.proofs.FitsSockets.{bytes_for, bytes_of, WasThere}
+use Rattle.ch_laws_calls.proofs.FitsStores.{none_kind}
+use Rattle.ch_laws_calls.proofs.FitsTold.{end_kept, asked_before}
 use Rattle.ch_laws_plain.specs.Streams.{PlainOn}
 use Rattle.ch_laws_plain.specs.Plain.{pending_at, pending_there, pending_of, PlainIn, PlainAt, EndIsPlain, WorldIsPlain}
 use Rattle.ch_laws_plain.specs.Turns.{ReaderPlain, WriterPlain, CellCarries}

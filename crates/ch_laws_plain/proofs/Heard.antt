@@ -26,11 +26,11 @@ use Rattle.ch_laws_items.proofs.Sockets.{number_is}
 use Rattle.ch_laws_links.proofs.Keys.{ended_rest}
 use Rattle.ch_laws_writes.specs.Dues.{Due, Answering, Framing}
 use Rattle.ch_laws_writes.specs.Orderly.{AreFrames}
-use Rattle.ch_laws_fits.specs.Fit.{frames_in}
-use Rattle.ch_laws_fits.specs.Turns.{bytes_at, IsKind}
-use Rattle.ch_laws_fits.proofs.Frames.{in_append}
-use Rattle.ch_laws_fits.proofs.Halves.{MayHear}
-use Rattle.ch_laws_fits.proofs.Stores.{Stores, stored, stored_again, none_kind, only_at, only_kind, only_spelled, items_of, waits_in, waits_follow, waits_bytes}
+use Rattle.ch_laws_calls.specs.FitsFit.{frames_in}
+use Rattle.ch_laws_calls.specs.FitsTurns.{bytes_at, IsKind}
+use Rattle.ch_laws_calls.proofs.FitsFrames.{in_append}
+use Rattle.ch_laws_calls.proofs.FitsHalves.{MayHear}
+use Rattle.ch_laws_calls.proofs.FitsStores.{Stores, stored, stored_again, none_kind, only_at, only_kind, only_spelled, items_of, waits_in, waits_follow, waits_bytes}
 use Rattle.ch_laws_plain.specs.Streams.{IsPlainStream}
 use Rattle.ch_laws_plain.specs.Talks.{frames_of, LinkIsPlain}
 use Rattle.ch_laws_plain.proofs.Streams.{probe_plain, ack_plain}

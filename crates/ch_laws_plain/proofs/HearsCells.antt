@@ -23,7 +23,7 @@ use Rattle.ch_model.specs.WorldState.{Cell}
 use Rattle.ch_laws_bytes.specs.Streams.{reader_in}
 use Rattle.ch_laws_connections.specs.Arrivals.{Meets, MeetsAs, CellMeets}
 use Rattle.ch_laws_connections.proofs.Cells.{stored_there, stored_other}
-use Rattle.ch_laws_fits.specs.Turns.{bytes_at, NoDials}
+use Rattle.ch_laws_calls.specs.FitsTurns.{bytes_at, NoDials}
 use Rattle.ch_laws_links.specs.Naming.{IsNaming}
 use Rattle.ch_laws_log.specs.HostEnds.{steps_in}
 use Rattle.ch_laws_log.proofs.Stored.{number_is, number_same}

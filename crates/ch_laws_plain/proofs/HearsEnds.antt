@@ -13,7 +13,7 @@ use Rattle.ch_model.specs.NodeState.{Arrived}
 use Rattle.ch_model.specs.Stages.{is_ended}
 use Rattle.ch_model.specs.WorldState.{Cell}
 use Rattle.ch_laws_bytes.specs.Streams.{reader_in}
-use Rattle.ch_laws_fits.specs.Fit.{frames_in}
+use Rattle.ch_laws_calls.specs.FitsFit.{frames_in}
 use Rattle.ch_laws_links.specs.Naming.{IsNaming, IsDialedBy, IsUpFor}
 use Rattle.ch_laws_links.proofs.Says.{risen, used}
 use Rattle.ch_laws_log.proofs.Stored.{number_is, number_same}

@@ -9,7 +9,7 @@ use Rattle.ch_model.specs.declared.step.Step.{Step}
 use Rattle.ch_model.specs.declared.step.Step.TheVariants as steps
 use Rattle.ch_model.specs.CellSteps.{Followed, after_entries, ◌then◌, acts_on, posted, steps_on}
 use Rattle.ch_model.specs.WorldState.{Cell}
-use Rattle.ch_laws_fits.specs.Turns.{bytes_at, NoDials}
+use Rattle.ch_laws_calls.specs.FitsTurns.{bytes_at, NoDials}
 use Rattle.ch_laws_log.specs.HostEnds.{steps_in}
 use Rattle.ch_laws_plain_nodes.specs.Acts.{AreNotes}
 use Rattle.ch_laws_plain.specs.ReadsReading.{posts_in}

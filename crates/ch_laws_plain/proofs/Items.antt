@@ -40,8 +40,8 @@ use Rattle.ch_laws_links.proofs.Readings.{Matches, FrontMatches, reading_matches
 use Rattle.ch_laws_links.proofs.Says.{used, unused}
 use Rattle.ch_laws_writes.specs.Dues.{Due, Answering, Framing, due_of, due_staged, due_open, due_at}
 use Rattle.ch_laws_writes.specs.Orderly.{IsOrderly, link_at}
-use Rattle.ch_laws_fits.specs.Turns.{IsKind}
-use Rattle.ch_laws_fits.proofs.Stores.{Stores, stored}
+use Rattle.ch_laws_calls.specs.FitsTurns.{IsKind}
+use Rattle.ch_laws_calls.proofs.FitsStores.{Stores, stored}
 use Rattle.ch_laws_plain.specs.Talks.{LinkIsPlain, HostIsPlain, Talks}
 use Rattle.ch_laws_plain.proofs.Talks.{clash}
 use Rattle.ch_laws_plain.proofs.Heard.{Says, AllSay, IsWell, quiet, alone, heard}

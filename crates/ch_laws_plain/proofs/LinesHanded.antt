@@ -34,9 +34,9 @@ use Rattle.ch_laws_ends.proofs.Known.{TargetIs}
 use Rattle.ch_laws_ends.proofs.Places.{got_same, set_twice}
 use Rattle.ch_laws_log.proofs.HostTold.{number_found}
 use Rattle.ch_laws_log.proofs.Stored.{number_same, self_same}
-use Rattle.ch_laws_fits.specs.Fit.{MayAskWell}
-use Rattle.ch_laws_fits.proofs.Sockets.{IsChanged, IsAnother, changed_or}
-use Rattle.ch_laws_fits.proofs.Told.{end_kept, asked_before}
+use Rattle.ch_laws_calls.specs.FitsFit.{MayAskWell}
+use Rattle.ch_laws_calls.proofs.FitsSockets.{IsChanged, IsAnother, changed_or}
+use Rattle.ch_laws_calls.proofs.FitsTold.{end_kept, asked_before}
 use Rattle.ch_laws_plain.specs.Plain.{pending_in, pending_there, pending_of, PlainAt, EndIsPlain, WorldIsPlain}
 use Rattle.ch_laws_plain.proofs.LinesRests.{links_plain}
 use Rattle.ch_laws_plain.proofs.LinesJoined.{cells_plain}

@@ -26,9 +26,9 @@ use Rattle.ch_laws_ends.proofs.Changes.{cells_stay, told_cells}
 use Rattle.ch_laws_ends.proofs.Found.{EachFound, each_kept}
 use Rattle.ch_laws_ends.proofs.Known.{Sorted, keeps_sorted}
 use Rattle.ch_laws_ends.proofs.Places.{set_split}
-use Rattle.ch_laws_fits.specs.Turns.{NoDials}
-use Rattle.ch_laws_fits.proofs.Events.{AllAlone, joined_alone}
-use Rattle.ch_laws_fits.proofs.Sockets.{WasThere, opened_goes, none_first_goes, told_goes}
+use Rattle.ch_laws_calls.specs.FitsTurns.{NoDials}
+use Rattle.ch_laws_calls.proofs.FitsEvents.{AllAlone, joined_alone}
+use Rattle.ch_laws_calls.proofs.FitsSockets.{WasThere, opened_goes, none_first_goes, told_goes}
 use Rattle.ch_laws_plain.specs.Plain.{CellIsPlain, WorldIsPlain}
 use Rattle.ch_laws_plain.proofs.Ends.{there_plain}
 use Rattle.ch_laws_plain.specs.LinesRests.{Rests, AllRest}

@@ -20,9 +20,9 @@ use Rattle.ch_laws_log.proofs.HostTold.{number_found, find_stored}
 use Rattle.ch_laws_log.proofs.Stored.{number_is}
 use Rattle.ch_laws_writes.specs.Dues.{Due, Asking, due_of, due_staged, due_asked, due_at}
 use Rattle.ch_laws_writes.specs.Orderly.{IsOrderly, link_at}
-use Rattle.ch_laws_fits.specs.Fit.{frames_in}
-use Rattle.ch_laws_fits.specs.Turns.{IsKind}
-use Rattle.ch_laws_fits.proofs.Stores.{none_kind, only_at, only_kind, only_spelled}
+use Rattle.ch_laws_calls.specs.FitsFit.{frames_in}
+use Rattle.ch_laws_calls.specs.FitsTurns.{IsKind}
+use Rattle.ch_laws_calls.proofs.FitsStores.{none_kind, only_at, only_kind, only_spelled}
 use Rattle.ch_laws_plain.specs.Streams.{IsPlainStream}
 use Rattle.ch_laws_plain.specs.Talks.{LinkIsPlain}
 use Rattle.ch_laws_plain.specs.Plain.{is_unread_of, arrived_in, id_for, pending_by, pending_in, pending_at, CellIsPlain}

@@ -24,9 +24,9 @@ use Rattle.ch_laws_calls.specs.Calls.{with_host, IsCalled, IsHeldBy, IsIn, AllRe
 use Rattle.ch_laws_calls.specs.Sound.{Sound}
 use Rattle.ch_laws_log.specs.HostEnds.{steps_in}
 use Rattle.ch_laws_many.specs.ManyLines.{is_of_many}
-use Rattle.ch_laws_fits.specs.Turns.{NoDials}
-use Rattle.ch_laws_fits.proofs.Told.{asked_before}
-use Rattle.ch_laws_turns.specs.Turns.{told_on}
+use Rattle.ch_laws_calls.specs.FitsTurns.{NoDials}
+use Rattle.ch_laws_calls.proofs.FitsTold.{asked_before}
+use Rattle.ch_laws_calls.specs.Turns.{told_on}
 use Rattle.ch_laws_plain.specs.Plain.{pending_of, CellIsPlain, PlainAt, WorldIsPlain}
 use Rattle.ch_laws_plain.specs.Turns.{CellCarries}
 use Rattle.ch_laws_plain.proofs.Worlds.{turn_plain}

@@ -14,8 +14,8 @@ use Rattle.ch_laws_items.specs.Stays.{numbers_of}
 use Rattle.ch_laws_items.proofs.Hosts as hosts
 use Rattle.ch_laws_connections.specs.Fits.{AllDiffer}
 use Rattle.ch_laws_calls.specs.Calls.{Claim, Anything, KeepsCalls, with_host, joined_in, come_in, fed_in}
-use Rattle.ch_laws_turns.specs.Turns.{KeepsTurns}
-use Rattle.ch_laws_turns.proofs.OfCalls.{by_calls}
+use Rattle.ch_laws_calls.specs.Turns.{KeepsTurns}
+use Rattle.ch_laws_calls.proofs.TurnsOfCalls.{by_calls}
 use Rattle.ch_laws_plain.proofs.MeetsCells.{Each, each_set, each_called, joined_cells, come_cells, fed_cells}
 
 abbrev pub IsApart : Cell → Type 0

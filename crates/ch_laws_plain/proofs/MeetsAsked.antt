@@ -22,10 +22,10 @@ use Rattle.ch_laws_bytes.proofs.Asked.{may_be_asked}
 use Rattle.ch_laws_bytes.proofs.Lines.{own_of}
 use Rattle.ch_laws_calls.specs.Peers.{Peers}
 use Rattle.ch_laws_calls.specs.Sound.{Sound}
-use Rattle.ch_laws_scenes.specs.Knocks.{Unknocked}
-use Rattle.ch_laws_scenes.proofs.Names.{name_found, some_name}
-use Rattle.ch_laws_scenes.proofs.Peers.{ArePeers, opened_by_peers}
-use Rattle.ch_laws_fits.specs.Fit.{MayAskWell}
+use Rattle.ch_laws_calls.specs.ScenesKnocks.{Unknocked}
+use Rattle.ch_laws_calls.proofs.ScenesNames.{name_found, some_name}
+use Rattle.ch_laws_calls.proofs.ScenesPeers.{ArePeers, opened_by_peers}
+use Rattle.ch_laws_calls.specs.FitsFit.{MayAskWell}
 
 -- each socket of the world was dialed by a node to another
 dialed_by_peers : (journal : List Line) (log : List Entry) (world : World) → Sound journal log world → Unknocked log → Peers journal log world → (socket : WorldSocket) → IsIn socket world → ArePeers (names_of journal) socket.name

@@ -26,12 +26,12 @@ use Rattle.ch_laws_race.proofs.Sockets.{given}
 use Rattle.ch_laws_calls.specs.Peers.{Peers}
 use Rattle.ch_laws_calls.specs.Sound.{Sound}
 use Rattle.ch_laws_calls.specs.Users.{AllUsed}
-use Rattle.ch_laws_scenes.specs.Knocks.{Unknocked}
-use Rattle.ch_laws_scenes.proofs.Held.{held_by, IsFoundAt, found_at, IsKept, kept_there, found_held}
-use Rattle.ch_laws_scenes.proofs.Streams.{flows_so, reader_at_end}
-use Rattle.ch_laws_fits.specs.Fit.{frames_in, MayAskWell}
-use Rattle.ch_laws_fits.proofs.Ends.{flows_there}
-use Rattle.ch_laws_fits.proofs.Frames.{in_append}
+use Rattle.ch_laws_calls.specs.ScenesKnocks.{Unknocked}
+use Rattle.ch_laws_calls.proofs.ScenesHeld.{held_by, IsFoundAt, found_at, IsKept, kept_there, found_held}
+use Rattle.ch_laws_calls.proofs.ScenesStreams.{flows_so, reader_at_end}
+use Rattle.ch_laws_calls.specs.FitsFit.{frames_in, MayAskWell}
+use Rattle.ch_laws_calls.proofs.FitsEnds.{flows_there}
+use Rattle.ch_laws_calls.proofs.FitsFrames.{in_append}
 use Rattle.ch_laws_plain.specs.Plain.{pending_at, pending_there, pending_of, PlainIn, PlainAt, WorldIsPlain}
 use Rattle.ch_laws_plain.specs.Streams.{PlainOn}
 use Rattle.ch_laws_plain.specs.MeetsReads.{ReadsPlain}

@@ -13,7 +13,7 @@ use Rattle.ch_model.specs.WorldState.{Cell, WorldSocket, World}
 use Rattle.ch_laws_ends.proofs.Changes.{cells_stay, told_cells}
 use Rattle.ch_laws_ends.proofs.Places.{set_split, set_twice}
 use Rattle.ch_laws_calls.specs.Calls.{with_host, done_at, joined_in, come_in, fed_in}
-use Rattle.ch_laws_turns.specs.Turns.{told_on}
+use Rattle.ch_laws_calls.specs.Turns.{told_on}
 
 -- so it is of each cell
 abbrev pub Each : (Cell → Type 0) → World → Type 0

@@ -10,9 +10,9 @@ use Rattle.ch_laws_connections.specs.Fits.{CellHolds, AllCells}
 use Rattle.ch_laws_connections.proofs.MadeSteps.{worlds_meet}
 use Rattle.ch_laws_connections.proofs.OpenGiven.{worlds_hold}
 use Rattle.ch_laws_calls.specs.Calls.{Claim, Anything, with_host, joined_in, come_in, fed_in}
-use Rattle.ch_laws_turns.specs.Turns.{end_in, KeepsTurns}
-use Rattle.ch_laws_turns.proofs.Cells.{join_quiet, come_quiet, feed_quiet}
-use Rattle.ch_laws_turns.proofs.Together.{alike, beside}
+use Rattle.ch_laws_calls.specs.Turns.{end_in, KeepsTurns}
+use Rattle.ch_laws_calls.proofs.TurnsCells.{join_quiet, come_quiet, feed_quiet}
+use Rattle.ch_laws_calls.proofs.TurnsTogether.{alike, beside}
 use Rattle.ch_laws_plain.specs.MeetsMeets.{AllMeet}
 use Rattle.ch_laws_plain.proofs.MeetsAgree.{Agree, made_agree, asked_agree, item_agree, event_agree, quiet_agree}
 use Rattle.ch_laws_plain.proofs.MeetsApart.{apart_kept}

@@ -34,9 +34,9 @@ use Rattle.ch_model.specs.HostState.{Link, Socket, HostState}
 use Rattle.ch_model.specs.HostSteps.{Stepped, still, after_steps, own_address, link_with, with_link, with_socket, is_socket}
 use Rattle.ch_model.specs.HostWrites.{leaves, answers_and_leaves}
 use Rattle.ch_model.specs.Stages.{is_open}
-use Rattle.ch_laws_fits.specs.Turns.{NoDials}
-use Rattle.ch_laws_fits.proofs.Events.{AllAlone}
-use Rattle.ch_laws_fits.proofs.Stores.{waits_alone}
+use Rattle.ch_laws_calls.specs.FitsTurns.{NoDials}
+use Rattle.ch_laws_calls.proofs.FitsEvents.{AllAlone}
+use Rattle.ch_laws_calls.proofs.FitsStores.{waits_alone}
 use Rattle.ch_laws_plain.proofs.ReadsTurns.{next_done}
 
 -- all that a link may hear, but for what its endpoint asks of it

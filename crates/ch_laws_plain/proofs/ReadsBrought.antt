@@ -20,8 +20,8 @@ use Rattle.ch_laws_links.proofs.Keys.{ended_rest, link_named, number_self}
 use Rattle.ch_laws_links.proofs.Says.{used}
 use Rattle.ch_laws_writes.specs.Orderly.{link_at}
 use Rattle.ch_laws_writes.proofs.Ordered.{is_key, at_key}
-use Rattle.ch_laws_fits.specs.Turns.{bytes_at}
-use Rattle.ch_laws_fits.proofs.Stores.{Stores}
+use Rattle.ch_laws_calls.specs.FitsTurns.{bytes_at}
+use Rattle.ch_laws_calls.proofs.FitsStores.{Stores}
 use Rattle.ch_laws_plain.specs.Talks.{LinkIsPlain}
 use Rattle.ch_laws_plain.specs.ReadsReading.{posts_in, AllReadThere, AreOfNone, Nothing, Loses, Brings}
 use Rattle.ch_laws_plain.proofs.ReadsEnds.{AllReadSo, AllOf, all_there, but_over}

@@ -14,8 +14,8 @@ use Rattle.ch_model.specs.Stages.{Stage, Pending, Open, Ended, is_open, is_ended
 use Rattle.ch_laws_items.proofs.Sockets.{number_is}
 use Rattle.ch_laws_log.proofs.HostTold.{find_stored}
 use Rattle.ch_laws_reads.specs.Reads.{AreRead}
-use Rattle.ch_laws_fits.specs.Fit.{frames_in}
-use Rattle.ch_laws_fits.proofs.Items.{Fronts}
+use Rattle.ch_laws_calls.specs.FitsFit.{frames_in}
+use Rattle.ch_laws_calls.proofs.FitsItems.{Fronts}
 use Rattle.ch_laws_plain.proofs.Talks.{clash}
 use Rattle.ch_laws_plain.specs.ReadsReading.{ReadThere, AllReadThere, AreOfNone}
 use Rattle.ch_laws_plain.proofs.ReadsSockets.{some_is, WereSo}

@@ -34,9 +34,9 @@ use Rattle.ch_laws_links.proofs.Keys.{ended_rest}
 use Rattle.ch_laws_links.proofs.Readings.{Matches, FrontMatches, reading_matches}
 use Rattle.ch_laws_links.proofs.Says.{used, unused}
 use Rattle.ch_laws_writes.specs.Orderly.{IsOrderly, link_at}
-use Rattle.ch_laws_fits.specs.Fit.{frames_in}
-use Rattle.ch_laws_fits.proofs.Items.{Fronts}
-use Rattle.ch_laws_fits.proofs.Stores.{Stores, stored}
+use Rattle.ch_laws_calls.specs.FitsFit.{frames_in}
+use Rattle.ch_laws_calls.proofs.FitsItems.{Fronts}
+use Rattle.ch_laws_calls.proofs.FitsStores.{Stores, stored}
 use Rattle.ch_laws_plain.specs.Talks.{HostIsPlain}
 use Rattle.ch_laws_plain.proofs.Talks.{clash}
 use Rattle.ch_laws_plain.specs.ReadsReading.{AllReadThere, AreOfNone, ReadOn, Brings}

@@ -22,8 +22,8 @@ use Rattle.ch_model.specs.HostWrites.{is_up, frame_step, forgotten, end_socket}
 use Rattle.ch_model.specs.Stages.{is_ended}
 use Rattle.ch_laws_items.proofs.Sockets.{number_is}
 use Rattle.ch_laws_links.proofs.Keys.{ended_rest}
-use Rattle.ch_laws_fits.specs.Turns.{bytes_at}
-use Rattle.ch_laws_fits.proofs.Stores.{Stores, stored, stored_again}
+use Rattle.ch_laws_calls.specs.FitsTurns.{bytes_at}
+use Rattle.ch_laws_calls.proofs.FitsStores.{Stores, stored, stored_again}
 use Rattle.ch_laws_plain.proofs.Heard.{over_stores}
 use Rattle.ch_laws_plain.proofs.Talks.{clash}
 use Rattle.ch_laws_plain.specs.ReadsReading.{posts_in}

@@ -19,8 +19,8 @@ use Rattle.ch_laws_reads.proofs.HostItemsRead.{next_told}
 use Rattle.ch_laws_writes.specs.Dues.{due_at}
 use Rattle.ch_laws_writes.specs.Orderly.{IsOrderly}
 use Rattle.ch_laws_writes.proofs.Ordered.{is_key, at_key}
-use Rattle.ch_laws_fits.specs.Turns.{bytes_at}
-use Rattle.ch_laws_fits.proofs.Stores.{none_kind}
+use Rattle.ch_laws_calls.specs.FitsTurns.{bytes_at}
+use Rattle.ch_laws_calls.proofs.FitsStores.{none_kind}
 use Rattle.ch_laws_plain.specs.Talks.{LinkIsPlain, HostIsPlain}
 use Rattle.ch_laws_plain.specs.Turns.{WriterPlain}
 use Rattle.ch_laws_plain.specs.ReadsReading.{HasStill, Brings, Reading}

@@ -14,7 +14,7 @@ use Rattle.ch_model.specs.HostSteps.{link_with}
 use Rattle.ch_model.specs.HostWrites.{is_up}
 use Rattle.ch_laws_items.proofs.Sockets.{number_is}
 use Rattle.ch_laws_writes.proofs.Ordered.{is_key, at_key}
-use Rattle.ch_laws_fits.specs.Turns.{bytes_at}
+use Rattle.ch_laws_calls.specs.FitsTurns.{bytes_at}
 use Rattle.ch_laws_plain.specs.Streams.{IsPlainStream}
 use Rattle.ch_laws_plain.specs.Talks.{frames_of, items_of, LinkIsPlain, HostIsPlain, MaySpell, IsAdded, Adds, IsUpThere, Speaks}
 use Rattle.ch_laws_plain.proofs.Streams.{plain_append}

@@ -20,9 +20,9 @@ use Rattle.ch_model.specs.HostWrites.{is_up}
 use Rattle.ch_laws_items.proofs.Sockets.{number_is}
 use Rattle.ch_laws_writes.specs.Dues.{Due, due_at}
 use Rattle.ch_laws_writes.specs.Orderly.{IsOrderly}
-use Rattle.ch_laws_fits.specs.Fit.{frames_in}
-use Rattle.ch_laws_fits.specs.Turns.{bytes_at, IsKind}
-use Rattle.ch_laws_fits.proofs.Stores.{none_kind, only_at, only_kind, only_spelled}
+use Rattle.ch_laws_calls.specs.FitsFit.{frames_in}
+use Rattle.ch_laws_calls.specs.FitsTurns.{bytes_at, IsKind}
+use Rattle.ch_laws_calls.proofs.FitsStores.{none_kind, only_at, only_kind, only_spelled}
 use Rattle.ch_laws_plain.specs.Streams.{IsPlainStream}
 use Rattle.ch_laws_plain.specs.Talks.{frames_of, items_of, LinkIsPlain, MaySpell, IsAdded, Adds, Talks}
 use Rattle.ch_laws_plain.proofs.Streams.{plain_append}

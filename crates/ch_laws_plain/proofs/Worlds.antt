@@ -22,9 +22,9 @@ use Rattle.ch_laws_ends.proofs.Told.{Sure}
 use Rattle.ch_laws_log.specs.HostEnds.{steps_in}
 use Rattle.ch_laws_race.specs.Chains.{steps_told}
 use Rattle.ch_laws_race.proofs.Same.{Same, all_same}
-use Rattle.ch_laws_fits.specs.Turns.{NoDials}
-use Rattle.ch_laws_fits.proofs.Sockets.{WasThere, told_goes}
-use Rattle.ch_laws_turns.specs.Turns.{told_on}
+use Rattle.ch_laws_calls.specs.FitsTurns.{NoDials}
+use Rattle.ch_laws_calls.proofs.FitsSockets.{WasThere, told_goes}
+use Rattle.ch_laws_calls.specs.Turns.{told_on}
 use Rattle.ch_laws_plain.specs.Plain.{CellIsPlain, WorldIsPlain}
 use Rattle.ch_laws_plain.specs.Turns.{CellCarries}
 use Rattle.ch_laws_plain.proofs.Ends.{there_plain}

@@ -11,8 +11,8 @@ use Rattle.ch_laws_writes.specs.Dues.{Due, due_at}
 use Rattle.ch_laws_writes.specs.Orderly.{IsOrderly}
 use Rattle.ch_laws_writes.proofs.Ordered.{is_key, at_key}
 use Rattle.ch_model.specs.HostSteps.{link_with}
-use Rattle.ch_laws_fits.specs.Turns.{bytes_at, IsKind}
-use Rattle.ch_laws_fits.proofs.Stores.{none_kind}
+use Rattle.ch_laws_calls.specs.FitsTurns.{bytes_at, IsKind}
+use Rattle.ch_laws_calls.proofs.FitsStores.{none_kind}
 use Rattle.ch_laws_plain.specs.Streams.{IsPlainStream}
 use Rattle.ch_laws_plain.specs.Talks.{items_of, LinkIsPlain, HostIsPlain, IsUpThere, Talks, Speaks}
 use Rattle.ch_laws_plain.specs.Turns.{WriterPlain}

@@ -13,7 +13,7 @@ use Rattle.ch_model.specs.HostState.{HostState}
 use Rattle.ch_model.specs.HostSteps.{is_socket}
 use Rattle.ch_model.specs.Naming.{Names, process_as}
 use Rattle.ch_laws_log.specs.Declared.{is_declared}
-use Rattle.ch_laws_fits.specs.Turns.{NoDials}
+use Rattle.ch_laws_calls.specs.FitsTurns.{NoDials}
 
 -- a message goes to a process of a declared node, or one is taken, or the process ends
 abbrev pub SendsToDeclared : Names → Command → Type 0

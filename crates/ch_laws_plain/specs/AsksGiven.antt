@@ -13,7 +13,7 @@ use Rattle.ch_laws_log.specs.HostEnds.{steps_in}
 use Rattle.ch_laws_connections.specs.Fits.{CellHolds}
 use Rattle.ch_laws_calls.specs.Calls.{Claim, with_host}
 use Rattle.ch_laws_calls.specs.Sound.{Sound}
-use Rattle.ch_laws_fits.specs.Turns.{NoDials}
+use Rattle.ch_laws_calls.specs.FitsTurns.{NoDials}
 use Rattle.ch_laws_plain.specs.Plain.{WorldIsPlain}
 
 -- hosts and world agree, the nodes of each cell agree with its host, and the world is plain

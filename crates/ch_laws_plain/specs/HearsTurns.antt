@@ -13,7 +13,7 @@ use Rattle.ch_model.specs.declared.step.Step.TheVariants as steps
 use Rattle.ch_model.specs.HostState.{HostState}
 use Rattle.ch_model.specs.NodeState.{NodeState}
 use Rattle.ch_model.specs.WorldState.{Cell}
-use Rattle.ch_laws_fits.specs.Turns.{bytes_at, NoDials}
+use Rattle.ch_laws_calls.specs.FitsTurns.{bytes_at, NoDials}
 use Rattle.ch_laws_log.specs.HostEnds.{steps_in}
 use Rattle.ch_laws_plain_nodes.specs.Acts.{IsPlainNote, AreNotes}
 use Rattle.ch_laws_plain.specs.Plain.{is_unread_of, id_for, NodeIsPlain, CellIsPlain}

@@ -6,7 +6,7 @@ use Rattle.ch_model.specs.HostState.{Socket, HostState}
 use Rattle.ch_model.specs.HostSteps.{is_socket}
 use Rattle.ch_laws_bytes.specs.Streams.{reader_in}
 use Rattle.ch_laws_writes.specs.Dues.{due_at}
-use Rattle.ch_laws_fits.specs.Turns.{bytes_at}
+use Rattle.ch_laws_calls.specs.FitsTurns.{bytes_at}
 use Rattle.ch_laws_plain.specs.Turns.{WriterPlain}
 
 -- its record of a socket says of it what it said: for which link it is, and what is read there next

@@ -8,7 +8,7 @@ use Rattle.ch_model.specs.HostSteps.{is_socket}
 use Rattle.ch_model.specs.Stages.{is_ended}
 use Rattle.ch_model.specs.WorldState.{Cell}
 use Rattle.ch_laws_reads.specs.Reads.{AreRead}
-use Rattle.ch_laws_fits.specs.Fit.{frames_in}
+use Rattle.ch_laws_calls.specs.FitsFit.{frames_in}
 use Rattle.ch_laws_plain.specs.Plain.{pending_at}
 use Rattle.ch_laws_plain.specs.Streams.{PlainOn}
 

@@ -17,7 +17,7 @@ use Rattle.ch_model.specs.WorldSockets.{end_of, is_socket_named}
 use Rattle.ch_model.specs.WorldState.{Cell, WorldSocket, World}
 use Rattle.ch_laws_bytes.specs.Streams.{Reader, reader_of, is_over}
 use Rattle.ch_laws_connections.specs.Senders.{once, total}
-use Rattle.ch_laws_fits.specs.Fit.{frames_in, MayAskWell}
+use Rattle.ch_laws_calls.specs.FitsFit.{frames_in, MayAskWell}
 use Rattle.ch_laws_plain_nodes.specs.Plain.{IsPlain}
 use Rattle.ch_laws_plain.specs.Streams.{PlainOn}
 use Rattle.ch_laws_plain.specs.Talks.{HostIsPlain}

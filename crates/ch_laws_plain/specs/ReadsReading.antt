@@ -17,7 +17,7 @@ use Rattle.ch_model.specs.HostSteps.{link_with, is_socket}
 use Rattle.ch_model.specs.Stages.{is_ended}
 use Rattle.ch_laws_reads.specs.Reads.{AreRead}
 use Rattle.ch_laws_writes.proofs.Ordered.{is_key}
-use Rattle.ch_laws_fits.specs.Fit.{frames_in}
+use Rattle.ch_laws_calls.specs.FitsFit.{frames_in}
 
 -- the events that steps post, each to the node of an endpoint
 abbrev pub posts_in : List Step → List (ℕ × Event)

@@ -18,8 +18,8 @@ use Rattle.ch_model.specs.HostSteps.{link_with, is_socket}
 use Rattle.ch_model.specs.HostWrites.{is_up}
 use Rattle.ch_laws_writes.specs.Dues.{due_at}
 use Rattle.ch_laws_writes.proofs.Ordered.{is_key}
-use Rattle.ch_laws_fits.specs.Fit.{frames_in}
-use Rattle.ch_laws_fits.specs.Turns.{bytes_at, IsKind}
+use Rattle.ch_laws_calls.specs.FitsFit.{frames_in}
+use Rattle.ch_laws_calls.specs.FitsTurns.{bytes_at, IsKind}
 use Rattle.ch_laws_plain.specs.Streams.{IsPlainStream}
 
 -- ---- links

@@ -12,8 +12,8 @@ use Rattle.ch_laws_bytes.specs.Streams.{Reader, reader_in}
 use Rattle.ch_laws_links.specs.Naming.{IsNaming}
 use Rattle.ch_laws_reads.specs.Reads.{AreRead, IsFresh}
 use Rattle.ch_laws_writes.specs.Dues.{Due, due_at}
-use Rattle.ch_laws_fits.specs.Fit.{frames_in}
-use Rattle.ch_laws_fits.specs.Turns.{bytes_at, IsKind}
+use Rattle.ch_laws_calls.specs.FitsFit.{frames_in}
+use Rattle.ch_laws_calls.specs.FitsTurns.{bytes_at, IsKind}
 use Rattle.ch_laws_plain.specs.Streams.{PlainOn, IsPlainStream}
 use Rattle.ch_laws_plain.specs.Plain.{CellIsPlain, pending_at}
 

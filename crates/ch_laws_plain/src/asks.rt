@@ -37,7 +37,7 @@ ghost use Rattle.ch_laws_many.proofs.Reached.{IsJournal};
 ghost use Rattle.ch_laws_plain.specs.Plain.{WorldIsPlain};
 ghost use Rattle.ch_laws_plain.specs.AsksAsks.{goes_to, DialsOnce};
 ghost use Rattle.ch_laws_plain.specs.AsksGiven.{Given, EndsDialNone, ItemsDialNone};
-ghost use Rattle.ch_laws_turns.specs.Turns.{told_on, IsAsked, end_in, KeepsTurns};
+ghost use Rattle.ch_laws_calls.specs.Turns.{told_on, IsAsked, end_in, KeepsTurns};
 
 /// The message that opens a connection between two processes fits in a frame, where the addresses of their nodes may be spelled.
 pub fn openings_fit_in_frames()

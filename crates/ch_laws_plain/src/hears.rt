@@ -22,7 +22,7 @@ ghost use Rattle.ch_model.specs.Node.{node_event};
 ghost use Rattle.ch_model.specs.NodeState.{NodeState};
 ghost use Rattle.ch_model.specs.WorldState.{Cell};
 ghost use Rattle.ch_laws_connections.specs.Arrivals.{made_at, Meets, CellMeets};
-ghost use Rattle.ch_laws_fits.specs.Turns.{bytes_at};
+ghost use Rattle.ch_laws_calls.specs.FitsTurns.{bytes_at};
 ghost use Rattle.ch_laws_links.specs.Naming.{IsNaming};
 ghost use Rattle.ch_laws_writes.specs.Dues.{due_at};
 ghost use Rattle.ch_laws_plain.specs.Plain.{is_unread_of, id_for, NodeIsPlain, CellIsPlain};

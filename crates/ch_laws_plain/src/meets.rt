@@ -14,13 +14,13 @@ ghost use Rattle.ch_laws_calls.specs.Calls.{Anything};
 ghost use Rattle.ch_laws_calls.specs.Peers.{Peers};
 ghost use Rattle.ch_laws_calls.specs.Sound.{Sound};
 ghost use Rattle.ch_laws_calls.specs.Users.{AllUsed};
-ghost use Rattle.ch_laws_fits.specs.Fit.{MayAskWell};
+ghost use Rattle.ch_laws_calls.specs.FitsFit.{MayAskWell};
 ghost use Rattle.ch_laws_many.proofs.Reached.{IsJournal};
 ghost use Rattle.ch_laws_plain.specs.Plain.{WorldIsPlain};
 ghost use Rattle.ch_laws_plain.specs.MeetsMeets.{AllMeet};
 ghost use Rattle.ch_laws_plain.specs.MeetsReads.{ReadsPlain};
-ghost use Rattle.ch_laws_scenes.specs.Knocks.{Unknocked};
-ghost use Rattle.ch_laws_turns.specs.Turns.{KeepsTurns};
+ghost use Rattle.ch_laws_calls.specs.ScenesKnocks.{Unknocked};
+ghost use Rattle.ch_laws_calls.specs.Turns.{KeepsTurns};
 
 /// The nodes of each cell agree with its host on the connections that they have open, and on those that have arrived at them: where
 /// nothing has happened, and after each turn, whatever else is so. A turn is a node's call with all its acts, an end that joins, comes,

@@ -12,7 +12,7 @@ ghost use Rattle.ch_model.specs.declared.step.SocketEvent.TheVariants.{Ended};
 ghost use Rattle.ch_model.specs.declared.step.Step.{Step};
 ghost use Rattle.ch_model.specs.Host.{host_on, host_next};
 ghost use Rattle.ch_model.specs.HostState.{HostState};
-ghost use Rattle.ch_laws_fits.specs.Turns.{bytes_at, NoDials};
+ghost use Rattle.ch_laws_calls.specs.FitsTurns.{bytes_at, NoDials};
 ghost use Rattle.ch_laws_links.specs.Naming.{IsNaming};
 ghost use Rattle.ch_laws_plain.specs.Talks.{HostIsPlain};
 ghost use Rattle.ch_laws_plain.specs.Turns.{WriterPlain};

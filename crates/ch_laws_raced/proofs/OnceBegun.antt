@@ -35,9 +35,9 @@ use Rattle.ch_laws_race.proofs.Views.{at_place, hosts_set, self_number}
 use Rattle.ch_laws_calls.specs.Calls.{with_host, done_at}
 use Rattle.ch_laws_calls.specs.Peers.{is_of_peers}
 use Rattle.ch_laws_calls.specs.Scenes.{IsPairOf, SceneFacts, scene_of}
-use Rattle.ch_laws_scenes.specs.Pairs.{IsPairFor}
-use Rattle.ch_laws_scenes.proofs.Places.{first_or, second_or, IsHomedAs, homed_as, is_there}
-use Rattle.ch_laws_scenes.proofs.Sides.{pairs_of}
+use Rattle.ch_laws_calls.specs.ScenesPairs.{IsPairFor}
+use Rattle.ch_laws_calls.proofs.ScenesPlaces.{first_or, second_or, IsHomedAs, homed_as, is_there}
+use Rattle.ch_laws_calls.proofs.ScenesSides.{pairs_of}
 use Rattle.ch_laws_live.specs.Turns.{is_start, start_last}
 use Rattle.ch_laws_live.proofs.Logs.{not_true, clash, or_either, or_none, any_split, none_among}
 use Rattle.ch_laws_live.proofs.Tests.{IsLast, each_started}

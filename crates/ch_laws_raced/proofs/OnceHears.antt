@@ -14,7 +14,7 @@ use Rattle.ch_model.specs.Delivery.{hears_from}
 use Rattle.ch_model.specs.Links.{rises, goes_down, has_risen, is_closed, risen_with, is_still_up}
 use Rattle.ch_model.specs.Same.{owner, across, is_end_of, end_of}
 use Rattle.ch_laws_links.proofs.Found.{one_is}
-use Rattle.ch_laws_scenes.proofs.Places.{first_or, second_or}
+use Rattle.ch_laws_calls.proofs.ScenesPlaces.{first_or, second_or}
 use Rattle.ch_laws_live.proofs.Logs.{or_either, any_more, unclosed_stays, end_is}
 use Rattle.ch_laws_raced.specs.UnbrokenBreaks.{is_no_break, NoBreaks}
 

@@ -47,10 +47,10 @@ use Rattle.ch_laws_race.proofs.Read as read
 use Rattle.ch_laws_race.proofs.Readings.{IsUp, unread, other_twice}
 use Rattle.ch_laws_calls.specs.Calls.{IsIn}
 use Rattle.ch_laws_calls.specs.Scenes.{IsPairOf, scene_of, SceneFacts}
-use Rattle.ch_laws_scenes.proofs.Held.{is_held}
-use Rattle.ch_laws_scenes.proofs.Places.{second_or}
-use Rattle.ch_laws_race_items.proofs.Fronts.{IsFirst}
-use Rattle.ch_laws_race_items.proofs.Reading as reading
+use Rattle.ch_laws_calls.proofs.ScenesHeld.{is_held}
+use Rattle.ch_laws_calls.proofs.ScenesPlaces.{second_or}
+use Rattle.ch_laws_raced.proofs.RaceItemsFronts.{IsFirst}
+use Rattle.ch_laws_raced.proofs.RaceItemsReading as reading
 use Rattle.ch_laws_live.proofs.Logs.{clash}
 use Rattle.ch_laws_raced.specs.UnbrokenBreaks.{NoBreaks}
 use Rattle.ch_laws_raced.specs.UnbrokenGiven.{Given}

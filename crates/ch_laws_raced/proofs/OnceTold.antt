@@ -31,7 +31,7 @@ use Rattle.ch_laws_log.proofs.Homes.{node_self}
 use Rattle.ch_laws_log.proofs.Stored.{bytes_same}
 use Rattle.ch_laws_bytes.proofs.Told.{told_names}
 use Rattle.ch_laws_live.proofs.Logs.{clash, or_either}
-use Rattle.ch_laws_scenes.proofs.Places.{first_or, second_or}
+use Rattle.ch_laws_calls.proofs.ScenesPlaces.{first_or, second_or}
 use Rattle.ch_laws_raced.specs.UnbrokenBreaks.{is_no_break, NoBreaks}
 use Rattle.ch_laws_raced.specs.OnceBegun.{is_dial_for, has_dial_for}
 use Rattle.ch_laws_raced.specs.OnceOnce.{has_dial}

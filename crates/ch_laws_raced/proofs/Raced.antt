@@ -3,12 +3,12 @@ use Rattle.std.specs.Prelude.{◌+◌, ◌∷◌, List}
 use Rattle.ch_model.specs.declared.line.Line.{Line}
 use Rattle.ch_laws_calls.specs.Calls.{KeepsCalls, Anything, done_at, joined_in, come_in, fed_in}
 use Rattle.ch_laws_calls.specs.Scenes.{Raced}
-use Rattle.ch_laws_race_calls.proofs.Raced.{reached_on, marked_raced, noted_raced, seated_raced, connected_raced, sent_raced, closed_raced}
-use Rattle.ch_laws_race_items.proofs.Items.{keeps_raced}
-use Rattle.ch_laws_race_lines.proofs.Comes.{comes_moved}
-use Rattle.ch_laws_race_lines.proofs.Feeds.{feeds_moved}
-use Rattle.ch_laws_race_lines.proofs.Joins.{joins_moved}
-use Rattle.ch_laws_race_lines.proofs.Overs.{overs_moved}
+use Rattle.ch_laws_raced.proofs.RaceCallsRaced.{reached_on, marked_raced, noted_raced, seated_raced, connected_raced, sent_raced, closed_raced}
+use Rattle.ch_laws_raced.proofs.RaceItemsItems.{keeps_raced}
+use Rattle.ch_laws_raced.proofs.RaceLinesComes.{comes_moved}
+use Rattle.ch_laws_raced.proofs.RaceLinesFeeds.{feeds_moved}
+use Rattle.ch_laws_raced.proofs.RaceLinesJoins.{joins_moved}
+use Rattle.ch_laws_raced.proofs.RaceLinesOvers.{overs_moved}
 use Rattle.ch_laws_raced.specs.Given.{Given}
 
 pub raced_kept : (journal : List Line) → KeepsCalls journal (Given journal) Anything (Raced journal)

@@ -21,22 +21,22 @@ use Rattle.ch_laws_calls.specs.Sound.{Sound}
 use Rattle.ch_laws_calls.specs.Users.{AllUsed}
 use Rattle.ch_laws_calls.proofs.Lines.{all_kept_given}
 use Rattle.ch_laws_calls.proofs.Together.{weaker, alike, beside, given_first, given_with, passed_before}
-use Rattle.ch_laws_fits.specs.Fit.{Fit}
-use Rattle.ch_laws_fits.proofs.Gives.{fit_gives}
-use Rattle.ch_laws_fits.proofs.Kept.{fit_kept, fresh_fit}
+use Rattle.ch_laws_calls.specs.FitsFit.{Fit}
+use Rattle.ch_laws_calls.proofs.FitsGives.{fit_gives}
+use Rattle.ch_laws_calls.proofs.FitsKept.{fit_kept, fresh_fit}
 use Rattle.ch_laws_live.specs.Lives as lives
 use Rattle.ch_laws_live.specs.Lives.{IsLively}
 use Rattle.ch_laws_live.proofs.Kept.{lively_kept, nothing_lives}
-use Rattle.ch_laws_race_calls.specs.Unshut.{AllUnshut}
-use Rattle.ch_laws_race_calls.proofs.Unshut.{unshut_kept, fresh_unshut}
-use Rattle.ch_laws_scenes.specs.Knocks.{Unknocked}
-use Rattle.ch_laws_scenes.proofs.Journals.{facts}
-use Rattle.ch_laws_scenes.proofs.Start.{raced_at_start}
-use Rattle.ch_laws_scenes.proofs.Unknocked.{unknocked_kept}
-use Rattle.ch_laws_sound.proofs.Kept.{ends_kept, fresh_ends}
-use Rattle.ch_laws_standing.proofs.Kept.{calls_kept, fresh_links}
-use Rattle.ch_laws_users.specs.Kept.{AreUsers}
-use Rattle.ch_laws_users.proofs.Kept.{used_kept, fresh_users, users_used}
+use Rattle.ch_laws_raced.specs.RaceCallsUnshut.{AllUnshut}
+use Rattle.ch_laws_raced.proofs.RaceCallsUnshut.{unshut_kept, fresh_unshut}
+use Rattle.ch_laws_calls.specs.ScenesKnocks.{Unknocked}
+use Rattle.ch_laws_calls.proofs.ScenesJournals.{facts}
+use Rattle.ch_laws_calls.proofs.ScenesStart.{raced_at_start}
+use Rattle.ch_laws_calls.proofs.ScenesUnknocked.{unknocked_kept}
+use Rattle.ch_laws_calls.proofs.SoundKept.{ends_kept, fresh_ends}
+use Rattle.ch_laws_calls.proofs.StandingKept.{calls_kept, fresh_links}
+use Rattle.ch_laws_calls.specs.UsersKept.{AreUsers}
+use Rattle.ch_laws_calls.proofs.UsersKept.{used_kept, fresh_users, users_used}
 use Rattle.ch_laws_raced.specs.Given.{Given, All}
 use Rattle.ch_laws_raced.proofs.Raced.{raced_kept}
 

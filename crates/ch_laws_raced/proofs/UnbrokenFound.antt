@@ -29,10 +29,10 @@ use Rattle.ch_laws_race.specs.Scene.{Party}
 use Rattle.ch_laws_race.specs.Sound.{HasEnd}
 use Rattle.ch_laws_calls.specs.Calls.{IsIn}
 use Rattle.ch_laws_calls.specs.Scenes.{IsPairOf, scene_of, IsOfSide, SceneFacts}
-use Rattle.ch_laws_scenes.specs.Pairs.{IsPairFor}
-use Rattle.ch_laws_scenes.proofs.Peers.{ArePeers, opened_by_peers}
-use Rattle.ch_laws_scenes.proofs.Sides.{pairs_of}
-use Rattle.ch_laws_race_items.proofs.Found.{place_found, end_keys}
+use Rattle.ch_laws_calls.specs.ScenesPairs.{IsPairFor}
+use Rattle.ch_laws_calls.proofs.ScenesPeers.{ArePeers, opened_by_peers}
+use Rattle.ch_laws_calls.proofs.ScenesSides.{pairs_of}
+use Rattle.ch_laws_raced.proofs.RaceItemsFound.{place_found, end_keys}
 use Rattle.ch_laws_raced.specs.UnbrokenGiven.{Given}
 
 -- ---- the world's socket of a host's record

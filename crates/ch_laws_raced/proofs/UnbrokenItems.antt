@@ -49,11 +49,11 @@ use Rattle.ch_laws_race.proofs.Read as read
 use Rattle.ch_laws_race.proofs.Readings.{taken, takes_front, IsUp, unread}
 use Rattle.ch_laws_calls.specs.Scenes.{IsPairOf, scene_of, SceneFacts}
 use Rattle.ch_laws_calls.specs.Tables.{table_of, frame_on}
-use Rattle.ch_laws_race_items.proofs.Found.{opener_is}
-use Rattle.ch_laws_race_items.proofs.Fronts.{IsFirst, as_items, answer_is, frame_is, frames_are}
-use Rattle.ch_laws_race_items.proofs.Next.{IsServed, is_served}
-use Rattle.ch_laws_race_items.proofs.Reading as reading
-use Rattle.ch_laws_race_items.proofs.Tables.{first_fits}
+use Rattle.ch_laws_raced.proofs.RaceItemsFound.{opener_is}
+use Rattle.ch_laws_raced.proofs.RaceItemsFronts.{IsFirst, as_items, answer_is, frame_is, frames_are}
+use Rattle.ch_laws_raced.proofs.RaceItemsNext.{IsServed, is_served}
+use Rattle.ch_laws_raced.proofs.RaceItemsReading as reading
+use Rattle.ch_laws_raced.proofs.RaceItemsTables.{first_fits}
 use Rattle.ch_laws_raced.specs.UnbrokenBreaks.{calm}
 use Rattle.ch_laws_raced.specs.UnbrokenGiven.{Given}
 use Rattle.ch_laws_raced.proofs.UnbrokenFound.{IsWorlds, worlds_end, IsTheirs, theirs}

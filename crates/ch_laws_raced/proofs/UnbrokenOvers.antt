@@ -50,8 +50,8 @@ use Rattle.ch_laws_race.proofs.Sockets.{given}
 use Rattle.ch_laws_race.proofs.Views.{self_number}
 use Rattle.ch_laws_calls.specs.Calls.{IsIn, IsHeldBy, IsCalled, AllRead}
 use Rattle.ch_laws_calls.specs.Scenes.{scene_of, SceneFacts}
-use Rattle.ch_laws_race_lines.proofs.Ends.{held_is}
-use Rattle.ch_laws_race_lines.proofs.Feeds.{open_is}
+use Rattle.ch_laws_raced.proofs.RaceLinesEnds.{held_is}
+use Rattle.ch_laws_raced.proofs.RaceLinesFeeds.{open_is}
 use Rattle.ch_laws_raced.specs.UnbrokenBreaks.{calm}
 use Rattle.ch_laws_raced.specs.UnbrokenGiven.{Given}
 use Rattle.ch_laws_raced.proofs.UnbrokenFound.{IsTheirs, theirs}

@@ -43,7 +43,7 @@ use Rattle.ch_model.specs.HostSteps.{Stepped, after_steps, ◌then◌, is_socket
 use Rattle.ch_model.specs.HostWrites.{writes, puts, frame_step, leaves, answers_and_leaves}
 use Rattle.ch_model.specs.Stages.{Stage, Open, is_pending, is_open}
 use Rattle.ch_laws_calls.specs.Tables.{table_of, frame_on}
-use Rattle.ch_laws_race_items.proofs.Tables.{data_fits, close_fits, open_fits}
+use Rattle.ch_laws_raced.proofs.RaceItemsTables.{data_fits, close_fits, open_fits}
 use Rattle.ch_laws_raced.specs.UnbrokenBreaks.{is_calm, calm}
 
 -- ---- steps

@@ -18,7 +18,7 @@ use Rattle.ch_laws_calls.specs.Peers.{is_of_peers, Peers}
 use Rattle.ch_laws_calls.specs.Scenes.{Raced}
 use Rattle.ch_laws_calls.proofs.Lines.{all_kept_given}
 use Rattle.ch_laws_calls.proofs.Together.{weaker, given_with, passed_before}
-use Rattle.ch_laws_scenes.proofs.Start.{raced_at_start}
+use Rattle.ch_laws_calls.proofs.ScenesStart.{raced_at_start}
 use Rattle.ch_laws_raced.specs.Given.{All}
 use Rattle.ch_laws_raced.specs.Given as raced
 use Rattle.ch_laws_raced.proofs.Together.{fresh_all, given_then, races_kept}

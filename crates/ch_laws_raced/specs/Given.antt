@@ -6,10 +6,10 @@ use Rattle.ch_model.specs.WorldState.{World}
 use Rattle.ch_laws_calls.specs.Fits.{AllFit}
 use Rattle.ch_laws_calls.specs.Scenes.{Shown}
 use Rattle.ch_laws_calls.specs.Sound.{Sound}
-use Rattle.ch_laws_fits.specs.Fit.{Fit}
-use Rattle.ch_laws_race_calls.specs.Unshut.{AllUnshut}
-use Rattle.ch_laws_scenes.specs.Knocks.{Unknocked}
-use Rattle.ch_laws_users.specs.Kept.{AreUsers}
+use Rattle.ch_laws_calls.specs.FitsFit.{Fit}
+use Rattle.ch_laws_raced.specs.RaceCallsUnshut.{AllUnshut}
+use Rattle.ch_laws_calls.specs.ScenesKnocks.{Unknocked}
+use Rattle.ch_laws_calls.specs.UsersKept.{AreUsers}
 
 -- Hosts and world agree, scenes are as they should be, no endpoint is closed, and what is unread fits what is open.
 pub record Given (journal : List Line) (log : List Entry) (world : World) : Type 0 where

@@ -3,3 +3,4 @@ pub mod UnbrokenBreaks
 pub mod UnbrokenGiven
 pub mod OnceBegun
 pub mod OnceOnce
+pub mod RaceCallsUnshut

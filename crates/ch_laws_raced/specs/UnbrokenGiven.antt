@@ -7,7 +7,7 @@ use Rattle.ch_laws_calls.specs.Fits.{AllFit}
 use Rattle.ch_laws_calls.specs.Peers.{Peers}
 use Rattle.ch_laws_calls.specs.Scenes.{Shown, Raced}
 use Rattle.ch_laws_calls.specs.Sound.{Sound}
-use Rattle.ch_laws_scenes.specs.Knocks.{Unknocked}
+use Rattle.ch_laws_calls.specs.ScenesKnocks.{Unknocked}
 
 -- Hosts and world agree; each two nodes are a scene as it should be, and are seen as a pair that comes about by moves that may happen;
 -- what is unread fits what is open; each dial is between two nodes, and nobody knocks.

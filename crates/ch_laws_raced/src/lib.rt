@@ -1,11 +1,15 @@
 //! The race in whole journals: each two nodes of a journal of many nodes are, after any of its lines, a pair that comes about by
 //! moves of ch_race's machine.
 //!
-//! No code: laws as clauses of empty functions. What happens is cut into calls in ch_laws_calls, and that each call keeps what
-//! is so of hosts, sockets and frames, and is moves of each pair, is proved in the crates between.
+//! No code: laws as clauses of empty functions. What happens is cut into calls in ch_laws_calls, where each call keeps what
+//! is so of hosts, sockets and frames. That it is moves of each pair is shown in modules: of what endpoints call (`race_calls`), of items
+//! that are read (`race_items`), and of what happens to sockets (`race_lines`).
 #![tactic(auto)]
 
 pub mod once;
+pub mod race_calls;
+pub mod race_items;
+pub mod race_lines;
 pub mod unbroken;
 
 ghost use Rattle.std.specs.Prelude.{◌≡◌, ◌++◌, ℕ, true, List, Ok};

@@ -1,7 +1,7 @@
 //! The laws of unbroken links: in the log of a journal of many nodes, between which nothing is lost, no link breaks and no end that
 //! was up is closed.
 //!
-//! No code: laws as clauses of empty functions, over the model below. ch_laws_raced has that each two nodes of such a journal are a
+//! No code: laws as clauses of empty functions, over the model below. The crate's root has that each two nodes of such a journal are a
 //! pair that ch_race's machine reaches; the machine says that nothing breaks there without a cause; and here it is said of the log.
 
 ghost use Rattle.std.specs.Prelude.{◌≡◌, ◌++◌, ℕ, true, List, [], find, slice_get, Some, None, Ok};

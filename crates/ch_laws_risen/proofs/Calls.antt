@@ -61,7 +61,7 @@ use Rattle.ch_laws_accounts.specs.Ups.{AllUps, raises_by, IsRaised}
 use Rattle.ch_laws_accounts.proofs.Ups.{next_ups, on_raises_none}
 use Rattle.ch_laws_calls.specs.Calls.{IsIn, IsHeldBy, IsCalled, with_host, done_at, joined_in}
 use Rattle.ch_laws_calls.specs.Sound.{SoundEnds}
-use Rattle.ch_laws_sound.proofs.Hears.{IsJoined, joined_so, found_after}
+use Rattle.ch_laws_calls.proofs.SoundHears.{IsJoined, joined_so, found_after}
 use Rattle.ch_laws_risen.specs.Firsts.{IsFed, HasAll, AllHave, begins_whole, has_read, AreRisen}
 use Rattle.ch_laws_risen.specs.Risings.{IsAnswered}
 use Rattle.ch_laws_risen.proofs.Firsts.{have_more, have_as, have_changed, AllDials, done_have, call_have}

@@ -48,9 +48,9 @@ use Rattle.ch_laws_bytes.proofs.Stepped.{ReadsFirst}
 use Rattle.ch_laws_accounts.proofs.Ups.{on_raises_none}
 use Rattle.ch_laws_calls.specs.Calls.{IsIn, IsHeldBy, IsCalled, done_at, fed_in}
 use Rattle.ch_laws_calls.specs.Sound.{SoundEnds}
-use Rattle.ch_laws_sound.proofs.Changed.{but_at}
-use Rattle.ch_laws_sound.proofs.Fed.{is_working}
-use Rattle.ch_laws_sound.proofs.Hears.{IsFed as Feeds, fed_so, found_after}
+use Rattle.ch_laws_calls.proofs.SoundChanged.{but_at}
+use Rattle.ch_laws_calls.proofs.SoundFed.{is_working}
+use Rattle.ch_laws_calls.proofs.SoundHears.{IsFed as Feeds, fed_so, found_after}
 use Rattle.ch_laws_risen.specs.Firsts.{IsFed, HasAll, AllHave, AreRisen}
 use Rattle.ch_laws_risen.proofs.Calls.{quietly_grown, quiet_risen, after_own}
 use Rattle.ch_laws_risen.proofs.Firsts.{reader_is, has_more, have_changed, AllDials, done_have}

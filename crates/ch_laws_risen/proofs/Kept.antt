@@ -28,8 +28,8 @@ use Rattle.ch_laws_calls.specs.Calls.{Anything, Both, KeepsCalls, done_at}
 use Rattle.ch_laws_calls.specs.Sound.{SoundEnds, SoundLinks, Sound}
 use Rattle.ch_laws_calls.proofs.Lines.{all_kept}
 use Rattle.ch_laws_calls.proofs.Together.{alike, given_first}
-use Rattle.ch_laws_sound.proofs.Kept.{ends_kept, fresh_ends}
-use Rattle.ch_laws_standing.proofs.Kept.{links_kept, fresh_links}
+use Rattle.ch_laws_calls.proofs.SoundKept.{ends_kept, fresh_ends}
+use Rattle.ch_laws_calls.proofs.StandingKept.{links_kept, fresh_links}
 use Rattle.ch_laws_risen.specs.Firsts.{AreRisen}
 use Rattle.ch_laws_risen.specs.Risings.{accepted_risen}
 use Rattle.ch_laws_risen.proofs.Accepted.{accepts_kept}

@@ -33,8 +33,8 @@ use Rattle.ch_laws_bytes.proofs.Stepped.{ReadsFirst}
 use Rattle.ch_laws_accounts.proofs.Ups.{on_raises_none}
 use Rattle.ch_laws_calls.specs.Calls.{IsIn, IsCalled, done_at, come_in}
 use Rattle.ch_laws_calls.specs.Sound.{SoundEnds}
-use Rattle.ch_laws_sound.proofs.Changed.{but_at}
-use Rattle.ch_laws_sound.proofs.Hears.{Becomes, came_so, found_after}
+use Rattle.ch_laws_calls.proofs.SoundChanged.{but_at}
+use Rattle.ch_laws_calls.proofs.SoundHears.{Becomes, came_so, found_after}
 use Rattle.ch_laws_risen.specs.Firsts.{HasBoth, AllHave, AreRisen}
 use Rattle.ch_laws_risen.proofs.Calls.{quietly_grown, quiet_risen, after_own}
 use Rattle.ch_laws_risen.proofs.Firsts.{have_more, have_as, have_stored, AllDials, done_have}

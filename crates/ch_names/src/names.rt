@@ -1,6 +1,6 @@
 //! The declared names, and what stands for what.
 
-ghost use Rattle.std.specs.Prelude.{◌≡◌, ◌<◌, ◌++◌, ◌∷◌, [], map, filter, find, IfOk, OnOk};
+ghost use Rattle.std.specs.Prelude.{◌≡◌, ◌<◌, ◌++◌, ◌∷◌, [], find, IfOk, OnOk};
 ghost use Rattle.std.specs.Option.{option_copied};
 ghost use Rattle.ch_model.specs.Naming.{is_named, called, address_as, process_as, target_as, reference_as, process_called, target_called, reference_called, maybe_called};
 ghost use Rattle.indexmap.specs.IndexMap.{spare};
@@ -216,27 +216,6 @@ impl Names {
             Some(process) => Ok(Some(self.process_called(process)?)),
         }
     }
-
-    /// The host texts of the nodes, in order of declaration; one that several nodes have stands as often.
-    /// It walks all names.
-    pub fn node_hosts(&self) -> Result<Vec<Text>, OutOfMemory>
-        ensures { IfOk result (λ hosts. hosts.items ≡ map (λ n. n.address.host) (filter (λ n. n.is_node) self.now)) }
-    {
-        hosts_of_nodes(self.alloc(), self.rows.as_slice())
-    }
-}
-
-/// The host texts of the nodes among these, in order.
-fn hosts_of_nodes(alloc: Global, rows: &[Known]) -> Result<Vec<Text>, OutOfMemory>
-    ensures { IfOk result (λ hosts. hosts.items ≡ map (λ n. n.address.host) (filter (λ n. n.is_node) rows.now)) }
-{
-    let mut hosts = Vec::new(alloc);
-    for known in rows {
-        if known.is_node {
-            hosts.push(known.address.host.copy()?)?;
-        }
-    }
-    Ok(hosts)
 }
 
 /// Puts a place under a key into a table that has room for one, where none stands under it.

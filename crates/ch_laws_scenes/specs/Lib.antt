@@ -1,2 +1,0 @@
-pub mod Knocks
-pub mod Pairs

@@ -1,8 +1,0 @@
-use Rattle.ch_laws_sound.proofs.Kept.{many_kept, many_fresh}
-use Rattle.ch_laws_sound.proofs.ends_stay_sound.Goals as goal
-
-pub returns-clause-kept : goal.returns-clause-kept
-returns-clause-kept c = many_kept
-
-pub returns-clause-fresh : goal.returns-clause-fresh
-returns-clause-fresh c = many_fresh

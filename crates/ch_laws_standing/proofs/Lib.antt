@@ -1,5 +1,0 @@
-pub mod Makes
-pub mod Told
-pub mod Opened
-pub mod Fed
-pub mod Kept

@@ -1,4 +1,0 @@
-pub mod Records
-pub mod Carried
-pub mod Kept
-pub mod Scenes
