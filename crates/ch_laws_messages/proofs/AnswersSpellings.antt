@@ -1,5 +1,5 @@
 -- A log whose messages are spelled as its journal's grammar allows: what the laws of sends, of what is got and of what is said ask of it.
-use Rattle.std.proofs.Common.{◌≡◌, ℕ, List, [], ◌∷◌, ap, sym, ◌∙◌, subst}
+use Rattle.std.proofs.Common.{◌≡◌, ℕ, List, [], ◌∷◌, sym, ◌∙◌, subst}
 use Rattle.std.specs.Prelude.{Option, Some, slice_get}
 use Rattle.ch_ident.specs.declared.identifier.ProcessId.{ProcessId}
 use Rattle.ch_ident.specs.Fits.{IsProcess}
@@ -11,8 +11,7 @@ use Rattle.ch_model.specs.declared.name.TargetName.{TargetName}
 use Rattle.ch_model.specs.declared.name.TargetName.TheVariants as targets
 use Rattle.ch_model.specs.Declarations.{process_id}
 use Rattle.ch_model.specs.Epochs.{FollowsEpochs}
-use Rattle.ch_model.specs.World.{names_of}
-use Rattle.ch_laws_spelled.specs.Sayings.{HasId, IsWellSaid, IsCounted}
+use Rattle.ch_laws_spelled.specs.Sayings.{HasId, IsCounted}
 use Rattle.ch_laws_spelled.specs.Spelled as spelled
 use Rattle.ch_laws_spelled.proofs.NamesFit.{has_id}
 use Rattle.ch_laws_spelled.proofs.Sayings.{entry_well, is_counted}

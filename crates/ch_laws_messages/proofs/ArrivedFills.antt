@@ -40,8 +40,8 @@ use Rattle.ch_laws_plain_logs.specs.Plain.{is_plain, IsPlain}
 use Rattle.ch_laws_peers.specs.Words.{words_in, datas_in}
 use Rattle.ch_laws_peers.specs.Reads.{PlacedItem, items_in, spelled_in, placed_in}
 use Rattle.ch_laws_messages.specs.CarriedCounts.{data_in}
-use Rattle.ch_laws_messages.proofs.WayFrames.{frame_read}
 use Rattle.ch_laws_messages.proofs.ArrivedEnding.{total, datas_of}
+use Rattle.ch_laws_messages.proofs.SaidWritten.{frame_read}
 
 -- ---- pieces and items
 
@@ -80,7 +80,7 @@ datas_read ((items.Answer answer, place) ∷ rest) m = absurd m.0
 
 -- ---- what was written
 
-twice : (e : End) → across (across e) ≡ e
+pub twice : (e : End) → across (across e) ≡ e
 twice O = refl
 twice T = refl
 

@@ -89,7 +89,7 @@ reads_mine readers first (Some p) (Some k) place n h = let parts = and_parts (p 
 up_number : (k : LinkState) (a c : ℕ) (b d : Bool) → k ≡ Up a b → k ≡ Up c d → a ≡ c
 up_number k a c b d one two = let same : Up a b ≡ Up c d = sym one ∙ two in cc
 
-not_ended : (stage : Stage) → is_open stage ≡ true → is_ended stage ≡ false
+pub not_ended : (stage : Stage) → is_open stage ≡ true → is_ended stage ≡ false
 not_ended Pending e = refl
 not_ended Open e = refl
 not_ended Ended e = absurd cc

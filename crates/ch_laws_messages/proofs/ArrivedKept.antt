@@ -71,6 +71,8 @@ use Rattle.ch_laws_messages.proofs.ArrivedEmpty.{holds_on, holds_with, holds_set
 use Rattle.ch_laws_messages.proofs.ArrivedFronts.{stands_in}
 use Rattle.ch_laws_messages.proofs.ArrivedHolds.{BothHold, AllHold, hold_as, hold_stored, hold_changed, done_hold, call_hold}
 use Rattle.ch_laws_messages.proofs.ArrivedLast.{unfed_last, fed_last, last_as, last_stays, NoneWhole, none_at_all}
+use Rattle.ch_laws_messages.proofs.ArrivedFinds.{not_ended}
+use Rattle.ch_laws_messages.proofs.ArrivedWithin.{same_itself}
 
 -- ---- all ends of a world
 
@@ -99,7 +101,7 @@ one_unfed x h = ap (λ b. b || false) h
 
 -- ---- what calls no host
 
-note_unfed : (known : Names) (last : Option Place) (note : Note) → is_feeding (note_entry known last note) ≡ false
+pub note_unfed : (known : Names) (last : Option Place) (note : Note) → is_feeding (note_entry known last note) ≡ false
 note_unfed known last (notes.Made process origin) = refl
 note_unfed known last note = refl
 
@@ -277,24 +279,15 @@ came_last journal log world socket place cell steps host is p led c s r risen = 
 
 -- ---- bytes are fed
 
-both : (a b : Bool) → a ≡ true → b ≡ true → (a && b) ≡ true
+pub both : (a b : Bool) → a ≡ true → b ≡ true → (a && b) ≡ true
 both true b h g = g
 both false b h g = absurd cc
-
-same_itself : (e : End) → same_end e e ≡ true
-same_itself O = refl
-same_itself T = refl
 
 same_end_is : (a b : End) → same_end a b ≡ true → a ≡ b
 same_end_is O O e = refl
 same_end_is T T e = refl
 same_end_is O T e = absurd cc
 same_end_is T O e = absurd cc
-
-not_ended : (stage : Stage) → is_open stage ≡ true → is_ended stage ≡ false
-not_ended Pending e = refl
-not_ended Open e = refl
-not_ended Ended e = absurd cc
 
 not_pending : (stage : Stage) → is_open stage ≡ true → is_pending stage ≡ false
 not_pending Pending e = absurd cc

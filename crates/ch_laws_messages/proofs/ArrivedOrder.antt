@@ -29,11 +29,11 @@ use Rattle.ch_laws_peers.specs.Reads.{reads, read_of}
 use Rattle.ch_laws_messages.specs.CarriedCounts.{carried_in}
 use Rattle.ch_laws_messages.specs.CarriedNexts.{GetsNext, GotBelow, AllBelow}
 use Rattle.ch_laws_messages.specs.CarriedWritten.{IsWritten}
-use Rattle.ch_laws_messages.proofs.WayLists.{got_more}
 use Rattle.ch_laws_ends.proofs.Places.{some_is}
 use Rattle.ch_laws_messages.specs.ArrivedGets.{is_got}
 use Rattle.ch_laws_messages.proofs.ArrivedEnding.{collected_grows}
 use Rattle.ch_laws_messages.proofs.ArrivedSayings.{alone_after}
+use Rattle.ch_laws_messages.proofs.SaidWords.{got_more}
 
 -- ---- places in lists
 

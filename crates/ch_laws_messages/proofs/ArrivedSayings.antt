@@ -19,7 +19,7 @@ use Rattle.ch_laws_log.proofs.Stored.{number_is}
 use Rattle.ch_laws_ends.proofs.Places.{some_is}
 use Rattle.ch_laws_plain_logs.specs.Plain.{said_by}
 
-process_is : (one two : ProcName) → same_process one two ≡ true → one ≡ two
+pub process_is : (one two : ProcName) → same_process one two ≡ true → one ≡ two
 process_is one two h = let parts = and_parts (bytes_eq one.node two.node) (one.counter == two.counter) h in
     ap (λ (n : List ℕ). record { node = n; counter = one.counter }) ((bytes_eq-Decides one.node two.node).0 parts.0) ∙ ap (λ (n : ℕ). record { node = two.node; counter = n }) (number_is one.counter two.counter parts.1)
 

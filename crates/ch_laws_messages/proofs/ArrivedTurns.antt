@@ -1,5 +1,5 @@
 -- Each turn keeps that messages between nodes are got by the bytes that were fed last, and in the order in which they were written.
-use Rattle.std.proofs.Common.{◌≡◌, ◌⊎◌, inl, inr, ℕ, Bool, true, false, ◌&&◌, ◌||◌, List, [], ◌∷◌, ◌++◌, Ok, refl, sym, ap, ◌∙◌, subst, append_assoc}
+use Rattle.std.proofs.Common.{◌≡◌, ◌⊎◌, inl, inr, ℕ, Bool, true, false, ◌||◌, List, [], ◌∷◌, ◌++◌, Ok, refl, sym, ap, ◌∙◌, subst, append_assoc}
 use Rattle.std.proofs.lemmas.Bool.{or_parts}
 use Rattle.std.proofs.lemmas.List.{append-nil}
 use Rattle.std.proofs.lemmas.List.Folds.{list_any-append}
@@ -17,9 +17,6 @@ use Rattle.ch_model.specs.declared.local.LocalEntry.{LocalEntry}
 use Rattle.ch_model.specs.declared.local.LocalEntry.TheVariants as local
 use Rattle.ch_model.specs.declared.name.ProcName.{ProcName}
 use Rattle.ch_model.specs.declared.name.TargetName.{TargetName}
-use Rattle.ch_model.specs.declared.note.Note.{Note}
-use Rattle.ch_model.specs.declared.note.Note.TheVariants as notes
-use Rattle.ch_model.specs.declared.step.Place.{Place}
 use Rattle.ch_model.specs.declared.step.SocketEvent.TheVariants as sockets
 use Rattle.ch_model.specs.declared.step.Step.{Step}
 use Rattle.ch_model.specs.AccountsFrames.{Saying, is_saying, carried, written_sayings}
@@ -29,14 +26,13 @@ use Rattle.ch_model.specs.CellSteps.{is_at, with_node, acts_on, steps_on}
 use Rattle.ch_model.specs.Host.{host_next}
 use Rattle.ch_model.specs.HostState.{HostState}
 use Rattle.ch_model.specs.Logs.{each_after, some_and, none_or, last_of}
-use Rattle.ch_model.specs.Naming.{Names}
 use Rattle.ch_model.specs.Node.{node_make, node_command, target_node}
 use Rattle.ch_model.specs.NodeState.{NodeState}
 use Rattle.ch_model.specs.Same.{node_of}
 use Rattle.ch_model.specs.World.{names_of, world_new}
 use Rattle.ch_model.specs.WorldHappenings.{with_cell}
 use Rattle.ch_model.specs.WorldState.{Cell, World}
-use Rattle.ch_model.specs.WorldSteps.{note_entry, noted, stepped, all_told}
+use Rattle.ch_model.specs.WorldSteps.{noted, stepped, all_told}
 use Rattle.ch_laws_log.proofs.Blocks.{each_append}
 use Rattle.ch_laws_bytes.proofs.Lines.{own_of}
 use Rattle.ch_laws_calls.specs.Calls.{with_host, IsCalled}
@@ -49,7 +45,7 @@ use Rattle.ch_laws_plain_nodes.specs.Plain.{IsPlain as IsPlainNode}
 use Rattle.ch_laws_plain_nodes.proofs.Calls.{makes}
 use Rattle.ch_laws_plain_nodes.proofs.Steps.{given_so}
 use Rattle.ch_laws_peers.specs.Standing.{IsOfNodes, Standing}
-use Rattle.ch_laws_messages.proofs.GotAsked.{command_home, plain_asked}
+use Rattle.ch_laws_messages.proofs.GotAsked.{command_home, plain_asked, made_home}
 use Rattle.ch_laws_messages.proofs.GotHosts.{has_broke, Calm, ended_does}
 use Rattle.ch_laws_messages.specs.WayReadingGoes.{OneRead, ReadingGoes}
 use Rattle.ch_laws_messages.specs.GotReadingGoes.{KnownGot}
@@ -58,15 +54,12 @@ use Rattle.ch_laws_messages.proofs.GotTold.{is_receipt, NoGots, steps_tell, calm
 use Rattle.ch_laws_messages.specs.ArrivedGets.{is_got, GetsCarried, GetsNexts, Arrives, AreGotSo}
 use Rattle.ch_laws_messages.proofs.ArrivedBytes.{got_there}
 use Rattle.ch_laws_messages.proofs.ArrivedEnding.{collected_grows}
-use Rattle.ch_laws_messages.proofs.ArrivedHome.{GetsWithin, AllWithin, none_within_gots, acts_within, made_home}
+use Rattle.ch_laws_messages.proofs.ArrivedHome.{GetsWithin, AllWithin, none_within_gots, acts_within}
 use Rattle.ch_laws_messages.proofs.ArrivedOrder.{ordered_there}
-use Rattle.ch_laws_messages.proofs.ArrivedWithin.{none_within}
+use Rattle.ch_laws_messages.proofs.ArrivedWithin.{none_within, no_front}
+use Rattle.ch_laws_messages.proofs.ArrivedKept.{both, note_unfed}
 
 -- ---- what is told passes a test
-
-both : (a b : Bool) → a ≡ true → b ≡ true → (a && b) ≡ true
-both true b h g = g
-both false b h g = absurd cc
 
 -- each entry does, after what is told before it
 pub all_pass : (test : List Entry → Entry → Bool) (log told : List Entry) → ((before behind : List Entry) (entry : Entry) → before ++ entry ∷ behind ≡ told → test (log ++ before) entry ≡ true) → each_after test log told ≡ true
@@ -79,10 +72,6 @@ all_pass test log (entry ∷ told) each = both (test log entry) (each_after test
 within_at : (before behind : List Entry) (entry : Entry) → AllWithin (before ++ entry ∷ behind) → GetsWithin entry
 within_at [] behind entry a = a.0
 within_at (x ∷ before) behind entry a = within_at before behind entry a.1
-
-no_front : {A : Type 0} (xs ys : List A) → xs ++ ys ≡ [] → xs ≡ []
-no_front [] ys e = refl
-no_front (x ∷ xs) ys e = absurd cc
 
 bytes_within : (journal : List Line) (log : List Entry) (entry : Entry) → GetsWithin entry → gets_by_bytes journal log entry ≡ true
 bytes_within journal log (entries.Got by to epoch index receiver) same = ap (λ b. b || some_and (λ f. list_any (is_saying by to epoch index) (arrived journal log f)) (last_of feeding log)) ((bytes_eq-Decides by.node (node_of to)).1 same)
@@ -107,11 +96,6 @@ within_so journal log told world after st all j = record {
 }
 
 -- ---- a turn in which a host reads an item
-
--- nothing is fed in it
-note_unfed : (known : Names) (last : Option Place) (note : Note) → is_feeding (note_entry known last note) ≡ false
-note_unfed known last (notes.Made process origin) = refl
-note_unfed known last note = refl
 
 told_unfed : (place : ℕ) (cell : Cell) (told : List LocalEntry) (world : World) → list_any is_feeding (all_told place cell told world).0 ≡ false
 told_unfed place cell [] world = refl

@@ -29,6 +29,7 @@ use Rattle.ch_laws_log.proofs.Views.{Seen, unseen, seen_in, end_seen}
 use Rattle.ch_laws_calls.specs.Peers.{is_of_peers}
 use Rattle.ch_laws_plain_logs.specs.Plain.{is_plain}
 use Rattle.ch_laws_peers.specs.Standing.{Standing}
+use Rattle.ch_laws_messages.proofs.ArrivedFills.{twice}
 
 -- ---- what is dialed
 
@@ -57,7 +58,7 @@ opened_apart known s (entry ∷ log) peers plain h = by_entry entry parts.0 kind
 
 -- ---- what is written there
 
-no_front : {A : Type 0} (xs ys : List A) → xs ++ ys ≡ [] → xs ≡ []
+pub no_front : {A : Type 0} (xs ys : List A) → xs ++ ys ≡ [] → xs ≡ []
 no_front [] ys e = refl
 no_front (x ∷ xs) ys e = absurd cc
 
@@ -65,15 +66,11 @@ no_back : {A : Type 0} (xs ys : List A) → xs ++ ys ≡ [] → ys ≡ []
 no_back [] ys e = e
 no_back (x ∷ xs) ys e = absurd cc
 
-twice : (e : End) → across (across e) ≡ e
-twice O = refl
-twice T = refl
-
-same_itself : (e : End) → same_end e e ≡ true
+pub same_itself : (e : End) → same_end e e ≡ true
 same_itself O = refl
 same_itself T = refl
 
-unseen_none : (e : End) → (end_seen e unseen).written ≡ []
+pub unseen_none : (e : End) → (end_seen e unseen).written ≡ []
 unseen_none O = refl
 unseen_none T = refl
 

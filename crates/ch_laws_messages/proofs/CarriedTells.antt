@@ -225,12 +225,12 @@ of_calm node next done r h e = (subst (Calm node) e h).0
 pub makes_silently : (node next : NodeState) (done : List Act) → node_make node ≡ Ok (done, next) → AreSilent done
 makes_silently node next done e = of_calm node next done (node_make node) (on_make node) e
 
-sent_silent : (node : NodeState) (by : ℕ) (to : ProcessId) (said : Message) (mark : Mark) → AreSilent (sent_acts node by to said mark)
+pub sent_silent : (node : NodeState) (by : ℕ) (to : ProcessId) (said : Message) (mark : Mark) → AreSilent (sent_acts node by to said mark)
 sent_silent node by to said Unopened = tt
 sent_silent node by to said (Opened conn) = tt
 sent_silent node by to said Broken = tt
 
-got_silent : (b : Bool) (from to : ProcessId) → AreSilent (got_acts b from to)
+pub got_silent : (b : Bool) (from to : ProcessId) → AreSilent (got_acts b from to)
 got_silent true from to = (refl, tt)
 got_silent false from to = tt
 

@@ -7,11 +7,11 @@ use Rattle.ch_model.specs.AccountsItems.{first_payload}
 use Rattle.ch_laws_peers.specs.Words.{Word, datas_in, carried_after, TrueWord, TrueWords}
 use Rattle.ch_laws_messages.specs.CarriedCounts.{carried_in}
 
-nothing_behind : {A : Type 0} (xs : List A) → xs ++ [] ≡ xs
+pub nothing_behind : {A : Type 0} (xs : List A) → xs ++ [] ≡ xs
 nothing_behind {A = A} [] = refl
 nothing_behind {A = A} (x ∷ xs) = ap (λ (l : List A). x ∷ l) (nothing_behind xs)
 
-nothing_before : {A : Type 0} (xs ys : List A) (x : A) → (xs ++ x ∷ []) ++ ys ≡ xs ++ x ∷ ys
+pub nothing_before : {A : Type 0} (xs ys : List A) (x : A) → (xs ++ x ∷ []) ++ ys ≡ xs ++ x ∷ ys
 nothing_before {A = A} [] ys x = refl
 nothing_before {A = A} (y ∷ xs) ys x = ap (λ (l : List A). y ∷ l) (nothing_before xs ys x)
 

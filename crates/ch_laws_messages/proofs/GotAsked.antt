@@ -103,20 +103,20 @@ ToldHome [] = Unit {0}
 ToldHome (local.Note note ∷ rest) = IsHome note × ToldHome rest
 ToldHome (local.Step step ∷ rest) = ToldHome rest
 
-home_both : (one two : List LocalEntry) → ToldHome one → ToldHome two → ToldHome (one ++ two)
+pub home_both : (one two : List LocalEntry) → ToldHome one → ToldHome two → ToldHome (one ++ two)
 home_both [] two h i = i
 home_both (local.Note note ∷ one) two h i = (h.0, home_both one two h.1 i)
 home_both (local.Step step ∷ one) two h i = home_both one two h i
 
-steps_home : (done : List Step) → ToldHome (told_steps done)
+pub steps_home : (done : List Step) → ToldHome (told_steps done)
 steps_home [] = tt
 steps_home (step ∷ rest) = steps_home rest
 
-abbrev AllHome : Followed → Type 0
+abbrev pub AllHome : Followed → Type 0
 AllHome (Ok done) = ToldHome done.0
 AllHome (Err stop) = Unit {0}
 
-asked_home : (cell : Cell) (r : Result (List Step × HostState) EndError) → AllHome (asked cell r)
+pub asked_home : (cell : Cell) (r : Result (List Step × HostState) EndError) → AllHome (asked cell r)
 asked_home cell (Ok done) = steps_home done.0
 asked_home cell (Err errors.Worn) = tt
 asked_home cell (Err errors.OutOfMemory) = tt
@@ -126,14 +126,14 @@ asked_home cell (Err errors.QueueFull) = tt
 asked_home cell (Err errors.PayloadLong) = tt
 asked_home cell (Err errors.Spent) = tt
 
-then_home : (end : ℕ) (rest : List Act) (r : Followed) → AllHome r → ((cell : Cell) → AllHome (acts_on end rest cell)) → AllHome (r then acts_on end rest)
+pub then_home : (end : ℕ) (rest : List Act) (r : Followed) → AllHome r → ((cell : Cell) → AllHome (acts_on end rest cell)) → AllHome (r then acts_on end rest)
 then_home end rest (Err stop) h more = tt
 then_home end rest (Ok one) h more = by_rest (acts_on end rest one.1) (more one.1) where
   by_rest : (r : Followed) → AllHome r → AllHome (after_entries one.0 r)
   by_rest (Ok two) i = home_both one.0 two.0 h i
   by_rest (Err stop) i = tt
 
-acts_home : (end : ℕ) (done : List Act) (cell : Cell) → AreHome done → AllHome (acts_on end done cell)
+pub acts_home : (end : ℕ) (done : List Act) (cell : Cell) → AreHome done → AllHome (acts_on end done cell)
 acts_home end [] cell h = tt
 acts_home end (acts.Note note ∷ rest) cell h = then_home end rest (act_on end (acts.Note note) cell) (h.0, tt) (λ c. acts_home end rest c h.1)
 acts_home end (acts.Open conn peer ∷ rest) cell h = then_home end rest (act_on end (acts.Open conn peer) cell) (asked_home cell (host_connect cell.host end peer conn)) (λ c. acts_home end rest c h)
@@ -202,7 +202,7 @@ acts_turn journal log world party x place end k cell node next done told after a
 
 -- ---- what is done
 
-made_home : (node next : NodeState) (done : List Act) → Makes node done next → AreHome done
+pub made_home : (node next : NodeState) (done : List Act) → Makes node done next → AreHome done
 made_home node next done m = subst AreHome (sym m.did) (tt, tt)
 
 sent_home : (node : NodeState) (by : ℕ) (to : ProcessId) (said : Message) (mark : Mark) → AreHome (sent_acts node by to said mark)

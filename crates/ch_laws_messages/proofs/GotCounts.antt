@@ -10,6 +10,7 @@ use Rattle.ch_laws_peers.specs.Words.{Word, datas_in, carried_after, TrueWord, T
 use Rattle.ch_laws_peers.specs.Reads.{after_first}
 use Rattle.ch_laws_messages.proofs.GotLists.{clash, some_is, first_stays, after_next, after_else, after_new, after_none, take_next}
 use Rattle.ch_laws_messages.proofs.GotBounds.{AreAlone}
+use Rattle.ch_laws_messages.proofs.EnteredCarried.{nothing_before, nothing_behind}
 
 pub count_both : {A : Type 0} (test : A → Bool) (xs ys : List A) → count_by test (xs ++ ys) ≡ count_by test xs + count_by test ys
 count_both {A = A} test xs ys = sum_by-append (λ (x : A). cond (test x) 1 0) xs ys
@@ -33,14 +34,6 @@ pub record Carried (journal : List Line) (said : List Saying) (w : Word) (read :
   pub n : ℕ
   pub true_word : TrueWord journal said n w (first_payload w.0.0 read)
   pub counted : after_first id read ≡ count_by test (take n said)
-
-nothing_behind : {A : Type 0} (xs : List A) → xs ++ [] ≡ xs
-nothing_behind {A = A} [] = refl
-nothing_behind {A = A} (x ∷ xs) = ap (λ (l : List A). x ∷ l) (nothing_behind xs)
-
-nothing_before : {A : Type 0} (xs ys : List A) (x : A) → (xs ++ x ∷ []) ++ ys ≡ xs ++ x ∷ ys
-nothing_before {A = A} [] ys x = refl
-nothing_before {A = A} (y ∷ xs) ys x = ap (λ (l : List A). y ∷ l) (nothing_before xs ys x)
 
 pub carried_next : (journal : List Line) (said : List Saying) (opening : List ℕ) (id : ℕ) (test : Saying → Bool) → IsOfOpening journal said opening test → (before : List (ℕ × List ℕ)) (n : ℕ) (ws : List Word) (w : Word) (rest : List Word) (end : ℕ) → TrueWords journal said before n (ws ++ w ∷ rest) end → AreAlone (before ++ datas_in ws) → first_payload id (before ++ datas_in ws) ≡ Some opening
     → after_first id before ≡ count_by test (take n said) → Carried journal said w (before ++ datas_in ws) opening id test

@@ -27,7 +27,7 @@ use Rattle.ch_model.specs.declared.note.Note.TheVariants as notes
 use Rattle.ch_model.specs.declared.step.EndError.{EndError}
 use Rattle.ch_model.specs.declared.step.EndError.TheVariants as errors
 use Rattle.ch_model.specs.declared.step.Step.{Step}
-use Rattle.ch_model.specs.CellSteps.{Followed, after_entries, ◌then◌, told_steps, asked, act_on, acts_on}
+use Rattle.ch_model.specs.CellSteps.{Followed, after_entries, ◌then◌, asked, act_on, acts_on}
 use Rattle.ch_model.specs.Delivery.{gets_in, may_receive, gets_the_said, gets_no_earlier, gets_by_receiver, gets_at_once}
 use Rattle.ch_model.specs.Epochs.{says_in, says_it}
 use Rattle.ch_model.specs.HostCalls.{host_connect, host_send, host_close}
@@ -57,7 +57,7 @@ use Rattle.ch_laws_messages.specs.GotSaidWell.{SaidWell}
 use Rattle.ch_laws_messages.proofs.GotHearing.{same_itself}
 use Rattle.ch_laws_messages.proofs.GotNodes.{ok_is}
 use Rattle.ch_laws_messages.proofs.GotLists.{clash}
-use Rattle.ch_laws_messages.proofs.GotTold.{NoGots, NotesGetNone, none_tell}
+use Rattle.ch_laws_messages.proofs.GotTold.{NoGots, NotesGetNone, none_tell, steps_none}
 use Rattle.ch_laws_messages.proofs.GotTurn.{first_said}
 use Rattle.ch_laws_messages.proofs.GotReceipts.{no_receipts, said_found, says_this}
 
@@ -90,10 +90,6 @@ told_both (local.Note note ∷ one) two h i = by_note note h (λ m. told_both on
   by_note (notes.IsAt question found) h more = more h
   by_note (notes.Named node name process) h more = more h
   by_note (notes.Shut node) h more = more h
-
-steps_none : (done : List Step) → NotesGetNone (told_steps done)
-steps_none [] = tt
-steps_none (step ∷ rest) = steps_none rest
 
 abbrev AllNone : Followed → Type 0
 AllNone (Ok done) = NotesGetNone done.0
@@ -149,12 +145,12 @@ acts_tell log place end done cell told after at world n e = no_receipts log (all
 
 -- ---- what a command gets
 
-sent_none : (node : NodeState) (by : ℕ) (to : ProcessId) (said : Message) (mark : Mark) → ActsGetNone (sent_acts node by to said mark)
+pub sent_none : (node : NodeState) (by : ℕ) (to : ProcessId) (said : Message) (mark : Mark) → ActsGetNone (sent_acts node by to said mark)
 sent_none node by to said Unopened = tt
 sent_none node by to said (Opened conn) = tt
 sent_none node by to said Broken = tt
 
-closes_none : (conns : List ℕ) → ActsGetNone (map (λ conn. acts.Close conn) conns)
+pub closes_none : (conns : List ℕ) → ActsGetNone (map (λ conn. acts.Close conn) conns)
 closes_none [] = tt
 closes_none (conn ∷ rest) = closes_none rest
 

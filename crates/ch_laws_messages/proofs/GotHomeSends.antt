@@ -34,7 +34,7 @@ use Rattle.ch_laws_messages.proofs.GotNodes.{IsTaken, put_taken}
 
 -- ---- who is sent to was made
 
-bound_is : {A E : Type 0} (P : Claim) (given : Result A E) (f : A → Result (List Act × NodeState) E) → ((x : A) → given ≡ Ok x → Holds P (f x)) → Holds P (given >>= f)
+pub bound_is : {A E : Type 0} (P : Claim) (given : Result A E) (f : A → Result (List Act × NodeState) E) → ((x : A) → given ≡ Ok x → Holds P (f x)) → Holds P (given >>= f)
 bound_is P (Ok x) f k = k x refl
 bound_is P (Err e) f k = tt
 

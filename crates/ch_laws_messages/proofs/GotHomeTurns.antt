@@ -59,11 +59,11 @@ use Rattle.ch_laws_messages.specs.WayReadingGoes.{Known}
 use Rattle.ch_laws_messages.specs.GotReceived.{says_of, AllGotHome, gets_the_next_within, AllReceived}
 use Rattle.ch_laws_messages.specs.GotSaidWell.{SaidWell}
 use Rattle.ch_laws_messages.proofs.GotApart.{ActsApart, acts_apart, acts_nodes, told_even}
-use Rattle.ch_laws_messages.proofs.GotGots.{ActsGetNone, acts_silent, at_end}
+use Rattle.ch_laws_messages.proofs.GotGots.{ActsGetNone, acts_silent, at_end, closes_none, sent_none}
 use Rattle.ch_laws_messages.proofs.GotHomeSends as home
 use Rattle.ch_laws_messages.proofs.GotLists.{clash}
 use Rattle.ch_laws_messages.proofs.GotNodes.{ok_is}
-use Rattle.ch_laws_messages.proofs.GotOver.{none_over}
+use Rattle.ch_laws_messages.proofs.GotOver.{none_over, second_true}
 use Rattle.ch_laws_messages.proofs.GotTold.{is_receipt, NoGots, got_both}
 use Rattle.ch_laws_messages.proofs.GotTurn.{first_said}
 use Rattle.ch_laws_messages.proofs.GotWithin.{NoneBack, none_back_same, none_back_keeps, none_back_changes, Came, node_came, AllEven, all_even, home_on, one_even, lost_even}
@@ -75,10 +75,6 @@ none_within log (x ∷ more) n = ap (λ (b : Bool). b && each_after gets_the_nex
   one : (x : Entry) → is_receipt x ≡ false → gets_the_next_within log x ≡ true
   one (entries.Got by to epoch index receiver) e = absurd cc
   one x e = refl
-
-second_true : (a b : Bool) → b ≡ true → (a || b) ≡ true
-second_true true b e = refl
-second_true false b e = e
 
 first_true : (a b : Bool) → a ≡ true → (a || b) ≡ true
 first_true true b e = refl
@@ -92,15 +88,6 @@ sent_apart known node by to said Broken = tt
 closes_apart : (known : Names) (conns : List ℕ) → ActsApart known (map (λ conn. acts.Close conn) conns)
 closes_apart known [] = tt
 closes_apart known (conn ∷ rest) = closes_apart known rest
-
-closes_none : (conns : List ℕ) → ActsGetNone (map (λ conn. acts.Close conn) conns)
-closes_none [] = tt
-closes_none (conn ∷ rest) = closes_none rest
-
-sent_none : (node : NodeState) (by : ℕ) (to : ProcessId) (said : Message) (mark : Mark) → ActsGetNone (sent_acts node by to said mark)
-sent_none node by to said Unopened = tt
-sent_none node by to said (Opened conn) = tt
-sent_none node by to said Broken = tt
 
 module _ (journal : List Line) (nodes : IsOfNodes journal) (log : List Entry) (world : World) (k : Known journal log world) (r : AllReceived log world) where
   known_is : world.names ≡ names_of journal

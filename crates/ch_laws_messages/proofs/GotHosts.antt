@@ -321,7 +321,7 @@ module _ (host : HostState) (socket : Socket) (user : ℕ × Address) (probed : 
 
 -- ---- any item
 
-frames_is : (e : Expected) (frame : Frame) → Matches e (items.Frame frame) → e ≡ expected.Frame
+pub frames_is : (e : Expected) (frame : Frame) → Matches e (items.Frame frame) → e ≡ expected.Frame
 frames_is expected.Request frame m = absurd m
 frames_is expected.Answer frame m = absurd m
 frames_is expected.Frame frame m = refl

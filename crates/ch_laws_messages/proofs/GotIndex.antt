@@ -30,6 +30,7 @@ use Rattle.ch_laws_messages.specs.GotSaidWell.{SaidWell}
 use Rattle.ch_laws_messages.proofs.GotLists.{clash, some_is}
 use Rattle.ch_laws_messages.proofs.GotCounts.{count_both}
 use Rattle.ch_laws_messages.proofs.GotTurn.{each_at, first_said}
+use Rattle.ch_laws_messages.proofs.ArrivedSayings.{process_is}
 
 -- ---- openings
 
@@ -73,10 +74,6 @@ said_entry x y entry s e = absurd cc
 -- a saying of this pair
 abbrev pub is_pair_of : ProcName → ProcName → Saying → Bool
 is_pair_of p q s = same_process s.by p && same_target s.to (names.Process q)
-
-pub process_is : (one two : ProcName) → same_process one two ≡ true → one ≡ two
-process_is one two h = let parts = and_parts (bytes_eq one.node two.node) (one.counter == two.counter) h in
-    ap (λ (n : List ℕ). record { node = n; counter = one.counter }) ((bytes_eq-Decides one.node two.node).0 parts.0) ∙ ap (λ (n : ℕ). record { node = two.node; counter = n }) (number_is one.counter two.counter parts.1)
 
 pub target_is : (to : TargetName) (q : ProcName) → same_target to (names.Process q) ≡ true → to ≡ names.Process q
 target_is (names.Process p) q h = ap names.Process (process_is p q h)

@@ -1,5 +1,5 @@
 -- What is got is kept, turn by turn; and where nothing has happened nothing was got.
-use Rattle.std.proofs.Common.{◌≡◌, ◌⊎◌, inl, inr, ℕ, ◌+◌, ◌*◌, true, false, List, [], ◌∷◌, ◌++◌, length, drop, Ok, refl, sym, ap, ◌∙◌, subst, arith}
+use Rattle.std.proofs.Common.{◌≡◌, ◌⊎◌, inl, inr, ℕ, ◌+◌, ◌*◌, true, false, List, [], ◌∷◌, ◌++◌, length, drop, Ok, refl, sym, ap, ◌∙◌, subst}
 use Rattle.std.specs.Prelude.{find, slice_get, slice_set, Some, None, Result}
 use Rattle.ch_base.specs.declared.event.Room.{Room}
 use Rattle.ch_static.specs.declared.command.Command.{Command}
@@ -60,7 +60,7 @@ use Rattle.ch_laws_messages.specs.GotReadingGoes.{KnownWell}
 use Rattle.ch_laws_messages.proofs.GotLiving.{all_lead_to}
 use Rattle.ch_laws_messages.proofs.GotBounds.{SameGot}
 use Rattle.ch_laws_messages.proofs.GotHosts.{has_broke, Calm, ended_does}
-use Rattle.ch_laws_messages.proofs.GotTold.{calm_told, none_broke, NoneGot, steps_got, got_both}
+use Rattle.ch_laws_messages.proofs.GotTold.{calm_told, none_broke, NoneGot, steps_got, got_both, no_more}
 use Rattle.ch_laws_messages.proofs.GotAsked.{ToldHome, Calms, told_same, calm_turn, acts_turn, command_home, plain_asked}
 use Rattle.ch_laws_messages.proofs.GotCalls.{links_stand, links_created, host_still}
 use Rattle.ch_laws_messages.proofs.GotTurn.{one_done, item_gets}
@@ -69,9 +69,6 @@ use Rattle.ch_laws_messages.proofs.GotWorlds.{names_apart, read_same, still_same
 -- nothing is read in the turn
 quiet_read : (journal : List Line) (log after_log : List Entry) (world after : World) → Known journal log world → NoneRead journal log world after_log after → (party : Side → Party) → IsPairOf journal party → (x : Side) → read_of party after x after_log ≡ read_of party world x log
 quiet_read journal log after_log world after k none party pair x = read_same party x log after_log world after (k.1.1 party pair x) (none party pair x).0 (none party pair x).1
-
-no_more : (n m : ℕ) → m ≡ 0 → n + m ≡ n
-no_more n m e = omega arith
 
 -- ---- a line is answered
 

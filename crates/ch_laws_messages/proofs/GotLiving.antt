@@ -62,7 +62,7 @@ living_there node to e = let it = living_roll node to e in (it.0, subst (λ (n :
 
 -- ---- a roll that moves
 
-over_long : (n : ℕ) (all : List Bool) → length (over_at n all) ≡ length all
+pub over_long : (n : ℕ) (all : List Bool) → length (over_at n all) ≡ length all
 over_long n [] = refl
 over_long zero (e ∷ all) = refl
 over_long (suc n) (e ∷ all) = ap suc (over_long n all)

@@ -39,7 +39,7 @@ none_over log (x ∷ more) n = ap (λ (b : Bool). b && each_after gets_over_link
 given_of : (journal : List Line) (log : List Entry) (world : World) → Standing journal log world → Given journal log world
 given_of journal log world s = record { sound = s.all.sound; shown = s.each_pair.shown; raced = s.raced; fit = s.each_pair.fit; peers = s.peers; unknocked = s.all.unknocked }
 
-second_true : (a b : Bool) → b ≡ true → (a || b) ≡ true
+pub second_true : (a b : Bool) → b ≡ true → (a || b) ≡ true
 second_true true b e = refl
 second_true false b e = e
 

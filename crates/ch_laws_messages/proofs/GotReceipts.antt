@@ -39,11 +39,12 @@ use Rattle.ch_laws_messages.proofs.GotMoves.{of_pair_opens}
 use Rattle.ch_laws_messages.proofs.GotBounds.{AreAlone}
 use Rattle.ch_laws_messages.proofs.GotCounts.{IsOfOpening, Carried, carried_next}
 use Rattle.ch_laws_messages.proofs.GotHearing.{same_itself}
-use Rattle.ch_laws_messages.proofs.GotIndex.{opening_is, is_pair_of, process_is, target_is, index_is}
+use Rattle.ch_laws_messages.proofs.GotIndex.{opening_is, is_pair_of, target_is, index_is}
 use Rattle.ch_laws_messages.proofs.GotTold.{is_receipt, NoGots}
 use Rattle.ch_laws_messages.proofs.GotTurn.{first_said}
 use Rattle.ch_laws_messages.proofs.GotWords.{IsSaying, saying_is, SaidPair, said_pair}
 use Rattle.ch_laws_messages.proofs.GotWorlds.{names_apart, Follows, alone_read}
+use Rattle.ch_laws_messages.proofs.ArrivedSayings.{process_is}
 
 -- ---- entries that get nothing
 

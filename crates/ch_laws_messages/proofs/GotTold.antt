@@ -60,7 +60,7 @@ calm_told (steps.Down sock ∷ rest) cell told after p e = let b = behind (local
 calm_told (steps.Left sock ∷ rest) cell told after p e = let b = behind (local.Step (steps.Left sock) ∷ []) (steps_on rest cell) told after e in let more = calm_told rest cell b.rest after p b.followed in (more.0, b.spelled ∙ ap (λ (l : List LocalEntry). local.Step (steps.Left sock) ∷ l) more.1)
 calm_told (steps.Broke end peer why ∷ rest) cell told after p e = let b = behind (local.Step (steps.Broke end peer why) ∷ []) (steps_on rest cell) told after e in let more = calm_told rest cell b.rest after p b.followed in (more.0, b.spelled ∙ ap (λ (l : List LocalEntry). local.Step (steps.Broke end peer why) ∷ l) more.1)
 
-nothing_more : {A : Type 0} (xs : List A) → xs ++ [] ≡ xs
+pub nothing_more : {A : Type 0} (xs : List A) → xs ++ [] ≡ xs
 nothing_more {A = A} [] = refl
 nothing_more {A = A} (x ∷ xs) = ap (λ (l : List A). x ∷ l) (nothing_more xs)
 
@@ -190,7 +190,7 @@ NoneGot known p q (entry ∷ rest) = (is_got known p q entry ≡ false) × NoneG
 pub got_both : (p q : ProcName) (one two : List Entry) → gets_of p q (one ++ two) ≡ gets_of p q one + gets_of p q two
 got_both p q one two = sum_by-append (λ (x : Entry). cond (gets_in p (names.Process q) 0 x) 1 0) one two
 
-no_more : (n m : ℕ) → m ≡ 0 → n + m ≡ n
+pub no_more : (n m : ℕ) → m ≡ 0 → n + m ≡ n
 no_more n m e = omega arith
 
 pub step_none : (p q : ProcName) (place : ℕ) (cell : Cell) (step : Step) (world : World) → gets_of p q (stepped place cell step world).0 ≡ 0
@@ -333,7 +333,7 @@ none_tell place cell (local.Note note ∷ rest) world n = by_note note n (λ w m
   by_note (notes.Named node name process) n more = (refl, more (noted (notes.Named node name process) world).1 n)
   by_note (notes.Shut node) n more = (refl, more (noted (notes.Shut node) world).1 n)
 
-steps_none : (done : List Step) → NotesGetNone (told_steps done)
+pub steps_none : (done : List Step) → NotesGetNone (told_steps done)
 steps_none [] = tt
 steps_none (step ∷ rest) = steps_none rest
 

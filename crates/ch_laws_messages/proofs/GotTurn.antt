@@ -85,7 +85,7 @@ use Rattle.ch_laws_messages.proofs.GotLiving.{all_lead_to, all_lead_here}
 use Rattle.ch_laws_messages.proofs.GotBounds.{AreAlone, SameGot, gets_nobody}
 use Rattle.ch_laws_messages.proofs.GotArrivals.{conn_within, created_is, closed_is}
 use Rattle.ch_laws_messages.proofs.GotHosts.{DoesAs, Brought, Calm, NextDoes, next_does}
-use Rattle.ch_laws_messages.proofs.GotTold.{NoGots, steps_tell, calm_told, brought_told, HeardBy, heard_by, none_broke, NoneGot, steps_got, got_both, step_none}
+use Rattle.ch_laws_messages.proofs.GotTold.{NoGots, steps_tell, calm_told, brought_told, HeardBy, heard_by, none_broke, NoneGot, steps_got, got_both, step_none, nothing_more}
 use Rattle.ch_laws_messages.proofs.GotHearing.{GotOne, tells_got, GotSo, EventDone, created_done, closed_done, data_done}
 use Rattle.ch_laws_messages.proofs.GotAsked.{told_same}
 use Rattle.ch_laws_messages.proofs.GotNodes.{ok_is}
@@ -161,10 +161,6 @@ one_done end cell did note heard after one e =
     let done : ◌≡◌ {A = Followed} (Ok (local.Note note ∷ [], cell)) (Ok (heard, after)) = ap (λ (l : List Act). acts_on end l cell) (sym one) ∙ e in
     let same : ◌≡◌ {A = List LocalEntry × Cell} (local.Note note ∷ [], cell) (heard, after) = ok_is (local.Note note ∷ [], cell) (heard, after) done in
     (sym (ap (λ (x : List LocalEntry × Cell). x.0) same), sym (ap (λ (x : List LocalEntry × Cell). x.1) same))
-
-nothing_more : {A : Type 0} (xs : List A) → xs ++ [] ≡ xs
-nothing_more {A = A} [] = refl
-nothing_more {A = A} (x ∷ xs) = ap (λ (l : List A). x ∷ l) (nothing_more xs)
 
 abbrev id_in : Frame → ℕ
 id_in (frames.Data id payload) = id

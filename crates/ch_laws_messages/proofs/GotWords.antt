@@ -35,16 +35,9 @@ use Rattle.ch_laws_peers.specs.Reads.{IsOfPair}
 use Rattle.ch_laws_messages.specs.GotSaidWell.{IsSaidWell, SaidWell}
 use Rattle.ch_laws_messages.proofs.GotLists.{some_is}
 use Rattle.ch_laws_messages.proofs.GotMoves.{pair_opens}
+use Rattle.ch_laws_messages.proofs.EnteredCarried.{nothing_before, nothing_behind}
 
 -- ---- true words, one of them
-
-nothing_before : {A : Type 0} (xs ys : List A) (x : A) → (xs ++ x ∷ []) ++ ys ≡ xs ++ x ∷ ys
-nothing_before {A = A} [] ys x = refl
-nothing_before {A = A} (y ∷ xs) ys x = ap (λ (l : List A). y ∷ l) (nothing_before xs ys x)
-
-nothing_behind : {A : Type 0} (xs : List A) → xs ++ [] ≡ xs
-nothing_behind {A = A} [] = refl
-nothing_behind {A = A} (x ∷ xs) = ap (λ (l : List A). x ∷ l) (nothing_behind xs)
 
 -- so many sayings were carried before it
 pub true_next : (journal : List Line) (said : List Saying) (before : List (ℕ × List ℕ)) (n : ℕ) (ws : List Word) (w : Word) (rest : List Word) (end : ℕ) → TrueWords journal said before n (ws ++ w ∷ rest) end → (m : ℕ) × TrueWord journal said m w (first_payload w.0.0 (before ++ datas_in ws))

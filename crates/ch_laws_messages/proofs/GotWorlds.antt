@@ -31,6 +31,7 @@ use Rattle.ch_laws_messages.specs.WayReadingGoes.{Grown}
 use Rattle.ch_laws_messages.proofs.GotLists.{clash, some_is, first_stays, take_next, take_more, split_at, within}
 use Rattle.ch_laws_messages.proofs.GotMoves.{GetsAt, at_party, of_party, Stays, gets_stay}
 use Rattle.ch_laws_messages.proofs.GotBounds.{AreAlone, SameGot}
+use Rattle.ch_laws_messages.proofs.GotTold.{nothing_more}
 
 -- ---- names
 
@@ -67,10 +68,6 @@ no_data (frames.Closed id) place e = refl
 no_data frames.EndClosed place e = refl
 no_data frames.Probe place e = refl
 no_data frames.ProbeAck place e = refl
-
-nothing_more : {A : Type 0} (xs : List A) → xs ++ [] ≡ xs
-nothing_more {A = A} [] = refl
-nothing_more {A = A} (x ∷ xs) = ap (λ (l : List A). x ∷ l) (nothing_more xs)
 
 pub read_no_data : (party : Side → Party) (x : Side) (log after_log : List Entry) (world after : World) (frame : Frame) (place : Option Place) → Grown party x log after_log → slice_get (towards (party x).name (party (other x)).name log) (reads party world x log) ≡ Some (frame, place) → reads party after x after_log ≡ suc (reads party world x log)
     → data_of frame ≡ None → read_of party after x after_log ≡ read_of party world x log

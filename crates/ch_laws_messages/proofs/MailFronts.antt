@@ -79,7 +79,7 @@ plain_open (x ∷ log) p = let parts = and_parts (is_plain x) (list_all is_plain
 
 -- ---- what a line tells
 
-same_self : (v : Verdict) → same_answer v v ≡ true
+pub same_self : (v : Verdict) → same_answer v v ≡ true
 same_self verdicts.Ok = refl
 same_self verdicts.Unknown = refl
 same_self verdicts.Dead = refl

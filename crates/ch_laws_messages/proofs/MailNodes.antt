@@ -45,6 +45,7 @@ use Rattle.ch_laws_plain_nodes.proofs.Events.{loses}
 use Rattle.ch_laws_plain_nodes.proofs.Lists.{is_theirs}
 use Rattle.ch_laws_plain_nodes.proofs.Steps.{Claim, Holds, bound, stopped, later, so_too, given_so}
 use Rattle.ch_laws_messages.proofs.MailMails.{Keeps, keeps_same, AllKept, end_keeps, make_keeps}
+use Rattle.ch_laws_messages.proofs.GotHomeSends.{bound_is}
 
 -- the node tells of nothing that enters a mailbox or leaves one
 abbrev pub is_quiet : Note → Bool
@@ -64,10 +65,6 @@ AreQuiet (act ∷ rest) = AreQuiet rest
 pub record Rests (before : NodeState) (done : List Act) (after : NodeState) : Type 0 where
   pub quiet : AreQuiet done
   pub mail : Keeps before.mail after.mail
-
-bound_is : {A E : Type 0} (P : Claim) (given : Result A E) (f : A → Result (List Act × NodeState) E) → ((x : A) → given ≡ Ok x → Holds P (f x)) → Holds P (given >>= f)
-bound_is P (Ok x) f k = k x refl
-bound_is P (Err e) f k = tt
 
 -- ---- a process is made
 

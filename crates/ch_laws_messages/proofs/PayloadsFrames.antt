@@ -1,33 +1,24 @@
 -- The frames that are written along a log: those of a front of it come first, and at the one end that writes them they are all.
-use Rattle.std.proofs.Common.{◌≡◌, ◌⊎◌, inl, inr, ℕ, Bool, true, false, cond, ◌&&◌, ◌==◌, List, [], ◌∷◌, ◌++◌, length, refl, sym, ap, ◌∙◌, append_assoc}
+use Rattle.std.proofs.Common.{◌≡◌, ◌⊎◌, inl, inr, ℕ, true, false, ◌==◌, List, [], ◌∷◌, ◌++◌, length, sym, ap, ◌∙◌, append_assoc}
 use Rattle.std.proofs.lemmas.List.{append-nil}
 use Rattle.std.proofs.lemmas.List.Elements.{filter_map-append}
 use Rattle.std.specs.List.{cons_option}
-use Rattle.std.specs.Prelude.{filter_map, Option, Some, None}
+use Rattle.std.specs.Prelude.{filter_map, Option, Some}
 use Rattle.ch_wire.specs.declared.frame.Frame.{Frame}
 use Rattle.ch_model.specs.declared.entry.Entry.{Entry}
 use Rattle.ch_model.specs.declared.entry.Entry.TheVariants as entries
 use Rattle.ch_model.specs.declared.name.End.{End}
-use Rattle.ch_model.specs.declared.name.End.TheVariants.{O, T}
 use Rattle.ch_model.specs.declared.name.SockName.{SockName}
 use Rattle.ch_model.specs.AccountsItems.{frame_of, frames_of, data_of}
 use Rattle.ch_model.specs.Logs.{kept_with}
-use Rattle.ch_model.specs.Same.{is_end_of, same_end}
+use Rattle.ch_model.specs.Same.{is_end_of}
 use Rattle.ch_model.specs.Sockets.{writing, writings}
-use Rattle.ch_laws_log.proofs.Stored.{self_same}
 use Rattle.ch_laws_peers.specs.Says.{written_by, frames_towards}
-use Rattle.ch_laws_messages.proofs.SaidLogs.{towards_more, later, frames_more, OthersNone, all_at}
+use Rattle.ch_laws_messages.proofs.SaidLogs.{towards_more, later, frames_more, OthersNone, all_at, kept_is, wrote_self}
 use Rattle.ch_laws_messages.specs.CarriedInTime.{datas_to}
-
-front_none : {A : Type 0} (xs ys : List A) → xs ++ ys ≡ [] → xs ≡ []
-front_none [] ys e = refl
-front_none (x ∷ xs) ys e = absurd cc
+use Rattle.ch_laws_messages.proofs.PayloadsOwners.{front_none}
 
 -- ---- towards a node
-
-kept_is : (o : Option Frame) (kept : List Frame) → kept_with o kept ≡ kept ++ cons_option o []
-kept_is None kept = sym (append-nil kept)
-kept_is (Some frame) kept = refl
 
 pub towards_grow : (x y : List ℕ) (front rest : List Entry) → (more : List Frame) × (frames_towards x y (front ++ rest) ≡ frames_towards x y front ++ more)
 towards_grow x y front [] = ([], ap (frames_towards x y) (append-nil front) ∙ sym (append-nil (frames_towards x y front)))
@@ -58,13 +49,6 @@ datas_grow x y front rest = with_frames (towards_grow x y front rest) where
   with_frames m = (filter_map data_of m.0, ap (filter_map data_of) m.1 ∙ filter_map-append data_of (frames_towards x y front) m.0)
 
 -- ---- at an end
-
-same_self : (e : End) → same_end e e ≡ true
-same_self O = refl
-same_self T = refl
-
-wrote_self : (s : SockName) (e : End) (bytes : List ℕ) → writing s e (entries.Wrote s e bytes) ≡ Some bytes
-wrote_self s e bytes = ap (λ (b : Bool). cond b (Some bytes) None) (ap (λ (b : Bool). b && same_end e e) (self_same s) ∙ same_self e)
 
 one_framed : (pieces : List (List ℕ)) (bytes : List ℕ) (frame : Frame) → (length pieces == 0) ≡ false → frame_of bytes ≡ Some frame → later pieces (Some bytes) ≡ frame ∷ []
 one_framed [] bytes frame e f = absurd cc

@@ -28,6 +28,7 @@ use Rattle.ch_laws_calls.specs.ScenesPairs.{IsPairFor}
 use Rattle.ch_laws_calls.proofs.ScenesPeers.{ArePeers, opened_by_peers}
 use Rattle.ch_laws_calls.proofs.ScenesSides.{pairs_of}
 use Rattle.ch_laws_peers.specs.Standing.{IsOfNodes, Standing}
+use Rattle.ch_laws_messages.proofs.ArrivedWithin.{unseen_none}
 
 -- ---- what was written at a socket that nothing was seen of
 
@@ -45,15 +46,11 @@ written_is log s T = written_from (puts s T) (λ v. v.t.written) s one log unsee
   one (entries.Wrote sock end bytes) v = refl
   one x v = refl
 
-unseen_none : (e : End) → (end_seen e unseen).written ≡ []
-unseen_none O = refl
-unseen_none T = refl
-
-front_none : {A : Type 0} (xs ys : List A) → xs ++ ys ≡ [] → xs ≡ []
+pub front_none : {A : Type 0} (xs ys : List A) → xs ++ ys ≡ [] → xs ≡ []
 front_none [] ys e = refl
 front_none (x ∷ xs) ys e = absurd cc
 
-back_none : {A : Type 0} (xs ys : List A) → xs ++ ys ≡ [] → ys ≡ []
+pub back_none : {A : Type 0} (xs ys : List A) → xs ++ ys ≡ [] → ys ≡ []
 back_none [] ys e = e
 back_none (x ∷ xs) ys e = absurd cc
 

@@ -1,5 +1,5 @@
 -- Each payload that is written is true: it opens the connection of a pair, or carries what was said next; and none is of a connection from node to node.
-use Rattle.std.proofs.Common.{◌≡◌, ◌⊎◌, inl, inr, ℕ, zero, suc, ◌+◌, ◌<◌, ◌≤◌, Bool, true, false, not, ◌&&◌, ◌||◌, ◌==◌, List, [], ◌∷◌, ◌++◌, length, refl, sym, ap, ◌∙◌, subst, append_assoc, arith}
+use Rattle.std.proofs.Common.{◌≡◌, ◌⊎◌, inl, inr, ℕ, zero, suc, ◌<◌, ◌≤◌, Bool, true, false, not, ◌&&◌, ◌||◌, ◌==◌, List, [], ◌∷◌, ◌++◌, length, refl, sym, ap, ◌∙◌, subst, append_assoc, arith}
 use Rattle.std.proofs.lemmas.Bool.{and_parts}
 use Rattle.std.proofs.lemmas.List.Elements.{filter_map-append}
 use Rattle.std.proofs.lemmas.List.Folds.{list_all-append}
@@ -7,15 +7,12 @@ use Rattle.std.proofs.lemmas.Slice.Eq.{bytes_eq-Decides}
 use Rattle.std.specs.List.{list_all}
 use Rattle.std.specs.Prelude.{filter_map, slice_get, Option, Some, None, is_some, if◌then◌else◌}
 use Rattle.std.specs.Str.{bytes_eq}
-use Rattle.ch_link.specs.declared.LinkState.{LinkState}
-use Rattle.ch_link.specs.declared.LinkState.TheVariants.{Up}
 use Rattle.ch_wire.specs.declared.frame.Frame.{Frame}
 use Rattle.ch_wire.specs.declared.frame.Frame.TheVariants as frames
 use Rattle.ch_model.specs.declared.entry.Entry.{Entry}
 use Rattle.ch_model.specs.declared.entry.Entry.TheVariants as entries
 use Rattle.ch_model.specs.declared.line.Line.{Line}
 use Rattle.ch_model.specs.declared.name.End.{End}
-use Rattle.ch_model.specs.declared.name.End.TheVariants.{O, T}
 use Rattle.ch_model.specs.declared.name.SockName.{SockName}
 use Rattle.ch_model.specs.Accounts.{IsBroughtAbout}
 use Rattle.ch_model.specs.AccountsFrames.{Saying, data_written, datas, is_user_data, next_carried, pair_opening, payload_of}
@@ -24,7 +21,6 @@ use Rattle.ch_model.specs.AccountsMessages.{opens_a_pair, is_true_opening, same_
 use Rattle.ch_model.specs.Logs.{each, each_after, some_and, none_or}
 use Rattle.ch_model.specs.Same.{owner, across, is_end_of, same_socket, same_end}
 use Rattle.ch_model.specs.Sockets.{writings}
-use Rattle.ch_model.specs.WorldSockets.{find_end}
 use Rattle.ch_model.specs.WorldState.{World}
 use Rattle.ch_race.specs.Pair.{Side, other}
 use Rattle.ch_laws_log.proofs.Stored.{self_same}
@@ -37,7 +33,7 @@ use Rattle.ch_laws_plain_logs.proofs.Simply.{said_between_plainly, carried_next}
 use Rattle.ch_laws_peers.specs.Words.{Word, words_in, waiting_as, carried_after, sayings, opens_one, TrueWords}
 use Rattle.ch_laws_peers.specs.Says.{written_by, frames_towards, towards, IsUpOn, Says, AllSay}
 use Rattle.ch_laws_peers.specs.Standing.{IsOfNodes, Standing}
-use Rattle.ch_laws_messages.proofs.SaidLogs.{OthersNone}
+use Rattle.ch_laws_messages.proofs.SaidLogs.{OthersNone, same_place, same_self}
 use Rattle.ch_laws_messages.proofs.SaidWords.{words_append}
 use Rattle.ch_laws_messages.specs.CarriedCounts.{carried_in}
 use Rattle.ch_laws_messages.specs.CarriedInTime.{datas_to, IsInTime, AllInTime}
@@ -48,20 +44,6 @@ use Rattle.ch_laws_messages.proofs.PayloadsTalks.{Talks, next_true, pair_no_node
 use Rattle.ch_laws_messages.proofs.PayloadsOwners.{pair_at}
 
 -- ---- what two nodes have to say
-
-abbrev number_of : LinkState → ℕ
-number_of (Up number probed) = number
-number_of state = 0
-
-one_found : (a b : SockName × End) → ◌≡◌ {A = Option (SockName × End)} (Some a) (Some b) → a ≡ b
-one_found a b e = cc
-
-same_place : (party : Side → Party) (world : World) (x : Side) (s : SockName) (e : End) (t : SockName) (f : End) → IsUpOn party world x s e → IsUpOn party world x t f → ◌≡◌ {A = SockName × End} (t, f) (s, e)
-same_place party world x s e t f u v = one_found (t, f) (s, e) (sym v.found ∙ ap (λ (n : ℕ). find_end (party x).place n world.sockets) (ap number_of (sym v.up ∙ u.up)) ∙ u.found)
-
-same_self : (e : End) → same_end e e ≡ true
-same_self O = refl
-same_self T = refl
 
 one_writes : (journal : List Line) (log : List Entry) (world : World) (party : Side → Party) (x : Side) → Says journal log world party x → OneWrites (party x).name (party (other x)).name log
 one_writes journal log world party x says s e is = by_one (says.one s e is) where

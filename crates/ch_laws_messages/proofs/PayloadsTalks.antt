@@ -14,7 +14,7 @@ use Rattle.ch_model.specs.declared.name.End.{End}
 use Rattle.ch_model.specs.declared.name.SockName.{SockName}
 use Rattle.ch_model.specs.AccountsFrames.{data_written, datas, is_user_data, user_data}
 use Rattle.ch_model.specs.AccountsItems.{frame_of, data_of, first_payload, opens_nodes}
-use Rattle.ch_model.specs.Logs.{collected, collected_after, kept_with, never, some_and}
+use Rattle.ch_model.specs.Logs.{collected, kept_with, never, some_and}
 use Rattle.ch_model.specs.Same.{owner, across, is_end_of}
 use Rattle.ch_model.specs.Sockets.{writings}
 use Rattle.ch_laws_plain_logs.specs.Plain.{IsPlain}
@@ -22,12 +22,13 @@ use Rattle.ch_laws_plain_logs.proofs.Pairs.{of_pair}
 use Rattle.ch_laws_plain_logs.proofs.Simply.{said_between_plainly}
 use Rattle.ch_laws_peers.specs.Words.{Word, words_in, datas_in, carried_after, placing, sayings, opens_one, TrueWords}
 use Rattle.ch_laws_peers.specs.Says.{written_by, frames_towards, towards}
-use Rattle.ch_laws_messages.proofs.SaidLogs.{by_last, towards_more}
+use Rattle.ch_laws_messages.proofs.SaidLogs.{towards_more, collected_more}
 use Rattle.ch_laws_messages.proofs.SaidWords.{first_opens, first_more, datas_append}
 use Rattle.ch_laws_messages.specs.CarriedCounts.{carried_in}
 use Rattle.ch_laws_messages.specs.CarriedInTime.{datas_to}
 use Rattle.ch_laws_messages.proofs.PayloadsFrames.{datas_grow, towards_at, OneWrites, same_frames}
 use Rattle.ch_laws_messages.proofs.PayloadsWords.{IsTrueAt, true_at, carried_last, datas_placed}
+use Rattle.ch_laws_messages.proofs.CarriedLogs.{by_last}
 
 abbrev Data : Type 0
 Data = ℕ × List ℕ
@@ -72,10 +73,6 @@ pub user_is : (journal : List Line) (x y : List ℕ) (log : List Entry) → Talk
 user_is journal x y log t front rest sock end d at same None first = ap (some_and (λ opening. not (opens_nodes journal (owner sock end) (owner sock (across end)) opening))) (ap (first_payload d.0) same ∙ first)
 user_is journal x y log t front rest sock end d at same (Some one) first = ap (some_and (λ opening. not (opens_nodes journal (owner sock end) (owner sock (across end)) opening))) (ap (first_payload d.0) same ∙ first)
     ∙ ap not (first_no_nodes journal x y log t front rest d.0 one (owner sock end) (owner sock (across end)) at first)
-
-collected_more : {B : Type 0} (look : List Entry → Entry → Option B) (before xs : List Entry) (kept : List B) (entry : Entry) → collected_after never look before kept (xs ++ entry ∷ []) ≡ kept_with (look (before ++ xs) entry) (collected_after never look before kept xs)
-collected_more look before [] kept entry = ap (λ (l : List Entry). kept_with (look l entry) kept) (sym (append-nil before))
-collected_more look before (x ∷ xs) kept entry = collected_more look (before ++ x ∷ []) xs (kept_with (look before x) kept) entry ∙ ap (λ (l : List Entry). kept_with (look l entry) (collected_after never look (before ++ x ∷ []) (kept_with (look before x) kept) xs)) (append_assoc before (x ∷ []) xs)
 
 kept_length : {B : Type 0} (kept : List B) (o : Option B) (one : Option (List ℕ)) → (elim o as (λ o. Bool) [ None ↦ false | Some b ↦ true ]) ≡ (elim one as (λ o. Bool) [ None ↦ false | Some b ↦ true ]) → length (kept_with o kept) ≡ carried_after one (length kept)
 kept_length kept None None e = refl

@@ -29,16 +29,17 @@ use Rattle.ch_model.specs.HostState.{HostState}
 use Rattle.ch_model.specs.Naming.{process_as}
 use Rattle.ch_model.specs.Node.{node_make, node_command, node_event}
 use Rattle.ch_model.specs.NodeIds.{process_id, is_here}
-use Rattle.ch_model.specs.NodeState.{NodeState, Mark, Unopened, Opened, Broken}
+use Rattle.ch_model.specs.NodeState.{NodeState}
 use Rattle.ch_model.specs.WorldState.{Cell, World}
 use Rattle.ch_model.specs.WorldSteps.{all_told, noted}
 use Rattle.ch_laws_epochs.proofs.Calm.{is_silent, AreSilent, Calm, on_make, on_command, on_event}
-use Rattle.ch_laws_plain_nodes.specs.Does.{pair_between, sent_acts, got_acts}
+use Rattle.ch_laws_plain_nodes.specs.Does.{pair_between}
 use Rattle.ch_laws_plain_nodes.proofs.Commands.{does_away, does_home}
 use Rattle.ch_laws_plain_logs.specs.Plain.{said_by}
 use Rattle.ch_laws_messages.specs.SaidHeeds.{IsUnsaid, AreUnsaid}
 use Rattle.ch_laws_messages.proofs.SaidAsks.{SendsToDeclared}
 use Rattle.ch_laws_messages.proofs.SaidItemTurn.{told_unsaid}
+use Rattle.ch_laws_messages.proofs.CarriedTells.{got_silent, sent_silent}
 
 -- ---- entries
 
@@ -181,15 +182,6 @@ pub make_first : (node next : NodeState) (all : List Act) → node_make node ≡
 make_first node next all e = silent_first all (calm_acts e) where
   calm_acts : node_make node ≡ Ok (all, next) → AreSilent all
   calm_acts e = (subst (Calm node) e (on_make node)).0
-
-sent_silent : (node : NodeState) (by : ℕ) (to : ProcessId) (said : Message) (mark : Mark) → AreSilent (sent_acts node by to said mark)
-sent_silent node by to said Unopened = tt
-sent_silent node by to said (Opened conn) = tt
-sent_silent node by to said Broken = tt
-
-got_silent : (b : Bool) (from to : ProcessId) → AreSilent (got_acts b from to)
-got_silent true from to = (refl, tt)
-got_silent false from to = tt
 
 send_first : (node next : NodeState) (by : ℕ) (to : ProcessId) (said : Message) (room : Room) (all : List Act) → node_command node by (commands.Send (targets.Process to) said) room ≡ Ok (all, next) → FirstSays all
 send_first node next by to said room all e = by_here (is_here node to.node) refl where

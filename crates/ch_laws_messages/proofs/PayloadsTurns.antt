@@ -33,6 +33,7 @@ use Rattle.ch_laws_messages.proofs.PayloadsWords.{IsTrueAt}
 use Rattle.ch_laws_messages.proofs.PayloadsTalks.{Talks, next_true}
 use Rattle.ch_laws_messages.proofs.PayloadsPayloads.{talks_of}
 use Rattle.ch_laws_messages.proofs.PayloadsTold.{OnlyFirst, first_told, unsaid_may, steps_unsaid, followed_unsaid, acted_first, make_first, command_first}
+use Rattle.ch_laws_messages.proofs.PayloadsOwners.{back_none}
 
 -- ---- where an entry stands
 
@@ -54,10 +55,6 @@ split_at (l ∷ log) told (g ∷ front) rest entry at = with_rest same (split_at
 wrote_unsaid : (x y : List ℕ) (front : List Entry) (entry : Entry) (frame : Frame) → written_by x y front entry ≡ Some frame → said_by x y entry ≡ None
 wrote_unsaid x y front (entries.Said by to epoch index mark body) frame e = absurd cc
 wrote_unsaid x y front entry frame e = refl
-
-back_none : {A : Type 0} (xs ys : List A) → xs ++ ys ≡ [] → ys ≡ []
-back_none [] ys e = e
-back_none (x ∷ xs) ys e = absurd cc
 
 none_behind : (x y : List ℕ) (f rest : List Entry) (entry : Entry) → OnlyFirst (f ++ entry ∷ rest) → said_by x y entry ≡ None → filter_map (said_by x y) (entry ∷ rest) ≡ []
 none_behind x y [] rest entry only none = ap (λ (o : Option Saying). cons_option o (filter_map (said_by x y) rest)) none ∙ only x y

@@ -16,7 +16,7 @@ use Rattle.ch_laws_messages.proofs.SaidFresh.{fresh_say}
 use Rattle.ch_laws_messages.proofs.SaidHearing.{only_item, only_ended}
 use Rattle.ch_laws_messages.proofs.SaidKept.{said_kept}
 use Rattle.ch_laws_messages.specs.WayHears.{HearsAlone}
-use Rattle.ch_laws_messages.specs.WayReadingGoes.{Known, ReadingGoes}
+use Rattle.ch_laws_messages.specs.WayReadingGoes.{ReadingGoes}
 use Rattle.ch_laws_messages.proofs.WayKept.{come_kept, fresh_come}
 use Rattle.ch_laws_messages.proofs.WayReading.{reading_goes}
 use Rattle.ch_laws_messages.proofs.AsksAsked.{asks_truly}

@@ -1,5 +1,5 @@
 -- All that is promised of the log of each journal of many nodes, put together.
-use Rattle.std.proofs.Common.{◌≡◌, ℕ, List, [], ◌++◌, Ok, refl}
+use Rattle.std.proofs.Common.{◌≡◌, ℕ, List, [], Ok, refl}
 use Rattle.std.proofs.lemmas.List.{append-nil}
 use Rattle.std.specs.Prelude.{IsTrue}
 use Rattle.ch_model.specs.declared.entry.Entry.{Entry}
@@ -12,7 +12,7 @@ use Rattle.ch_model.specs.Lawful.{IsPromised}
 use Rattle.ch_model.specs.LinesBuilt.{many_nodes}
 use Rattle.ch_model.specs.Logs.{each}
 use Rattle.ch_model.specs.Mailboxes.{FollowsMailboxes, takes_the_first}
-use Rattle.ch_model.specs.World.{world_new, log_from, log_of}
+use Rattle.ch_model.specs.World.{log_of}
 use Rattle.ch_model.specs.WorldState.{World}
 use Rattle.ch_laws_peers.proofs.Logs.{of_nodes, fair}
 use Rattle.ch_laws_messages.proofs.PayloadsPayloads.{true_payloads, brought_about}

@@ -27,7 +27,6 @@ use Rattle.ch_laws_many.proofs.InOrder.{in_order}
 use Rattle.ch_laws_many.proofs.Journals.{is_journal}
 use Rattle.ch_laws_risen.proofs.Kept.{read_requests, read_answers, accepted_next, target_first}
 use Rattle.ch_laws_endings.proofs.LogEnds.{log_caused}
-use Rattle.ch_laws_peers.specs.Fair.{IsFair}
 use Rattle.ch_laws_peers.proofs.Logs.{fair}
 
 apart : (bytes : List ℕ) → AreNamedApart (names_of (journal_of many_nodes bytes))

@@ -1,9 +1,7 @@
 -- That hosts and nodes stand, and frames lead to tables of ids, turn by turn.
 use Rattle.std.proofs.Common.{List, []}
-use Rattle.ch_model.specs.declared.entry.Entry.{Entry}
 use Rattle.ch_model.specs.declared.line.Line.{Line}
 use Rattle.ch_model.specs.World.{world_new}
-use Rattle.ch_model.specs.WorldState.{World}
 use Rattle.ch_laws_calls.specs.Calls.{Claim, Anything, Both}
 use Rattle.ch_laws_calls.specs.Sound.{SoundEnds, SoundLinks}
 use Rattle.ch_laws_ids.specs.Runs.{AllRun}

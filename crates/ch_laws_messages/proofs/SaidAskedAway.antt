@@ -45,7 +45,7 @@ use Rattle.ch_laws_messages.proofs.SaidActs.{NextOn, next_acts, FirstActs, first
 
 -- ---- pairs
 
-one_process : (a b : ProcessId) → same_process a b ≡ true → a ≡ b
+pub one_process : (a b : ProcessId) → same_process a b ≡ true → a ≡ b
 unfolding same_process
 one_process a b h =
     let first = and_parts (same_node a.node b.node) ((a.unique == b.unique) && (a.counter == b.counter)) h in

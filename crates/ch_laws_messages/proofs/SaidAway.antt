@@ -28,7 +28,7 @@ use Rattle.ch_laws_writes.proofs.Worlds.{number_same}
 use Rattle.ch_laws_messages.specs.SaidPuts.{Puts, AllPut}
 use Rattle.ch_laws_messages.proofs.SaidPuts.{connect_puts, send_puts, puts_then}
 
-some_is : {A : Type 0} {x y : A} → ◌≡◌ {A = Option A} (Some x) (Some y) → x ≡ y
+pub some_is : {A : Type 0} {x y : A} → ◌≡◌ {A = Option A} (Some x) (Some y) → x ≡ y
 some_is e = cc
 
 -- ---- a payload on a connection that is open with one peer

@@ -74,7 +74,7 @@ use Rattle.ch_laws_messages.proofs.SaidTurned.{link_here}
 
 -- ---- pairs whose connections are closed
 
-some_is : {A : Type 0} {a b : A} → ◌≡◌ {A = Option A} (Some a) (Some b) → a ≡ b
+pub some_is : {A : Type 0} {a b : A} → ◌≡◌ {A = Option A} (Some a) (Some b) → a ≡ b
 some_is e = cc
 
 closed_test : (by b : ℕ) (to : Target) (p : Pair) → is_pair b to (closed_by by p) ≡ is_pair b to p

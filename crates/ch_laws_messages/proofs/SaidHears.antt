@@ -39,7 +39,7 @@ IsCalmEvent event = Unit {0}
 abbrev Same : List Process → List Process → Type 0
 Same before now = (length now ≡ length before) × ((k : ℕ) → life_of now k ≡ life_of before k)
 
-set_length : (mail : List Process) (n : ℕ) (p : Process) → length (slice_set mail n p) ≡ length mail
+pub set_length : (mail : List Process) (n : ℕ) (p : Process) → length (slice_set mail n p) ≡ length mail
 set_length [] n p = refl
 set_length (x ∷ mail) zero p = refl
 set_length (x ∷ mail) (suc n) p = ap suc (set_length mail n p)
@@ -130,14 +130,14 @@ hears node (events.Received conn payload) p c = by_found (find (λ (known : Arri
   by_found None e = it_self node
   by_found (Some one) e = reads_as node one payload one.bound (found_bound (λ (known : Arrived). known.conn == conn) node.arrived one e p.arrived)
 
-abbrev lives_by : Bool → Option Life → Bool
+abbrev pub lives_by : Bool → Option Life → Bool
 lives_by own life = option_map_or (λ life. not (is_over life)) (cond own life None) false
 
-living_is : (node : NodeState) (b : ℕ) → is_living node (process_id node b) ≡ lives_by (is_own node (process_id node b)) (life_of node.mail b)
+pub living_is : (node : NodeState) (b : ℕ) → is_living node (process_id node b) ≡ lives_by (is_own node (process_id node b)) (life_of node.mail b)
 unfolding is_living life_here
 living_is node b = refl
 
-own_so : (a b : NodeState) (k : ℕ) → a.own ≡ b.own → a.unique ≡ b.unique → is_own a (process_id a k) ≡ is_own b (process_id b k)
+pub own_so : (a b : NodeState) (k : ℕ) → a.own ≡ b.own → a.unique ≡ b.unique → is_own a (process_id a k) ≡ is_own b (process_id b k)
 unfolding is_own
 own_so a b k own unique = ap (λ (o : Address). same_node o o && (a.unique == a.unique)) own ∙ ap (λ (u : ℕ). same_node b.own b.own && (u == u)) unique
 

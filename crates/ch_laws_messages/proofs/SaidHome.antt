@@ -56,9 +56,9 @@ use Rattle.ch_laws_messages.specs.SaidGoes.{said_to, given_to, mark_of, IsDeclar
 use Rattle.ch_laws_messages.specs.SaidPuts.{Utters, DialsOne}
 use Rattle.ch_laws_messages.specs.SaidSends.{saying_of}
 use Rattle.ch_laws_messages.proofs.SaidActs.{noted}
-use Rattle.ch_laws_messages.proofs.SaidAskedAway.{stored_pair}
+use Rattle.ch_laws_messages.proofs.SaidAskedAway.{stored_pair, one_process}
 use Rattle.ch_laws_messages.proofs.SaidLives.{living_as, ends_long, send_ends}
-use Rattle.ch_laws_messages.proofs.SaidSends.{one_process, process_self}
+use Rattle.ch_laws_messages.proofs.SaidSends.{process_self}
 use Rattle.ch_laws_messages.proofs.SaidMakes.{one_note, stored_in, seen_in}
 use Rattle.ch_laws_messages.proofs.SaidStill.{node_at, node_same}
 use Rattle.ch_laws_messages.proofs.SaidTurn.{turn_say}

@@ -11,6 +11,7 @@ use Rattle.ch_model.specs.AccountsItems.{first_payload}
 use Rattle.ch_laws_calls.specs.Tables.{Table, is_open_at, has_open, frame_on, frames_on}
 use Rattle.ch_laws_peers.specs.Words.{Placed, words_in, datas_in}
 use Rattle.ch_laws_messages.specs.SaidGoes.{bare}
+use Rattle.ch_laws_messages.proofs.SaidAway.{some_is}
 
 longer : (table : Table) (x : Bool) → length table ≤ length (table ++ x ∷ [])
 longer [] x = omega arith
@@ -26,9 +27,6 @@ set_long (y ∷ table) zero x = self (length (y ∷ table)) where
 set_long (y ∷ table) (suc n) x = more (length table) (length (slice_set table n x)) (set_long table n x) where
   more : (a b : ℕ) → a ≤ b → suc a ≤ suc b
   more a b l = omega arith
-
-some_is : {A : Type 0} {x y : A} → ◌≡◌ {A = Option A} (Some x) (Some y) → x ≡ y
-some_is e = cc
 
 -- a table never gets shorter
 step_long : (frame : Frame) (table next : Table) → frame_on frame table ≡ Some next → length table ≤ length next

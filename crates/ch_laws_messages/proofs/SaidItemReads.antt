@@ -54,6 +54,7 @@ use Rattle.ch_laws_messages.specs.SaidHeeds.{AreCalm, IsAnswer, FromDown, FromUp
 use Rattle.ch_laws_calls.specs.FitsTurns.{NoDials}
 use Rattle.ch_laws_messages.proofs.SaidItemHosts.{one_answer, heard}
 use Rattle.ch_laws_messages.proofs.SaidUtters.{one_key}
+use Rattle.ch_laws_messages.proofs.GotHosts.{frames_is}
 
 -- ---- links
 
@@ -206,14 +207,14 @@ gone own host socket o p = gone_all own host host socket (λ done. AllHeed host 
 
 -- ---- what is due
 
-due_here : (host : HostState) (socket : Socket) → find (is_socket socket.number) host.sockets ≡ Some socket → is_open socket.stage ≡ true → due_at host socket.number ≡ Some (due_open socket.expected)
+pub due_here : (host : HostState) (socket : Socket) → find (is_socket socket.number) host.sockets ≡ Some socket → is_open socket.stage ≡ true → due_at host socket.number ≡ Some (due_open socket.expected)
 due_here host socket found stands = ap due_of found ∙ by_stage socket.stage stands where
   by_stage : (stage : Stage) → is_open stage ≡ true → due_staged stage socket ≡ Some (due_open socket.expected)
   by_stage Open e = refl
   by_stage Pending e = absurd cc
   by_stage Ended e = absurd cc
 
-not_over : (stage : Stage) → is_open stage ≡ true → is_ended stage ≡ false
+pub not_over : (stage : Stage) → is_open stage ≡ true → is_ended stage ≡ false
 not_over Open e = refl
 not_over Pending e = absurd cc
 not_over Ended e = absurd cc
@@ -340,20 +341,15 @@ framed own host socket rest frame user o p = by_frame frame where
 
 -- ---- any item
 
-asks_is : (e : Expected) (request : Request) → Matches e (items.Request request) → e ≡ expected.Request
+pub asks_is : (e : Expected) (request : Request) → Matches e (items.Request request) → e ≡ expected.Request
 asks_is expected.Request request m = refl
 asks_is expected.Answer request m = absurd m
 asks_is expected.Frame request m = absurd m
 
-answers_is : (e : Expected) (answer : Answer) → Matches e (items.Answer answer) → e ≡ expected.Answer
+pub answers_is : (e : Expected) (answer : Answer) → Matches e (items.Answer answer) → e ≡ expected.Answer
 answers_is expected.Request answer m = absurd m
 answers_is expected.Answer answer m = refl
 answers_is expected.Frame answer m = absurd m
-
-frames_is : (e : Expected) (frame : Frame) → Matches e (items.Frame frame) → e ≡ expected.Frame
-frames_is expected.Request frame m = absurd m
-frames_is expected.Answer frame m = absurd m
-frames_is expected.Frame frame m = refl
 
 taken : (own : ℕ → Address) (host : HostState) (socket : Socket) (rest : List ℕ) (item : Item) → IsNaming host → IsOrderly own host → HostIsPlain host → Stands host socket → (front_of socket).0 ≡ Whole item → AllHeed host (takes (taken_of socket rest) item host)
 taken own host socket rest item n o p s front = by_item item (subst (FrontMatches socket.expected) front (reading_matches socket.expected socket.since)) where

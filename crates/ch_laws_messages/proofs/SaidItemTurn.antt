@@ -1,5 +1,5 @@
 -- A turn in which a host reads an item, and no link fails: what was said is carried still, also where a link comes up.
-use Rattle.std.proofs.Common.{◌≡◌, ◌⊎◌, inl, inr, ℕ, Bool, true, false, cond, ◌&&◌, List, [], ◌∷◌, ◌++◌, Ok, refl, sym, ap, ◌∙◌, subst}
+use Rattle.std.proofs.Common.{◌≡◌, ◌⊎◌, inl, inr, ℕ, Bool, true, false, cond, List, [], ◌∷◌, ◌++◌, Ok, refl, sym, ap, ◌∙◌, subst}
 use Rattle.std.proofs.lemmas.List.{append-nil}
 use Rattle.std.proofs.lemmas.List.Elements.{filter_map-append}
 use Rattle.std.specs.List.{cons_option}
@@ -59,7 +59,6 @@ use Rattle.ch_laws_calls.specs.Turns.{told_on}
 use Rattle.ch_laws_writes.specs.Dues.{Answering, Framing, due_at}
 use Rattle.ch_laws_writes.specs.Orderly.{IsOrderly}
 use Rattle.ch_laws_writes.proofs.Worlds.{number_is, number_same}
-use Rattle.ch_laws_writes.proofs.Written.{Begun}
 use Rattle.ch_laws_peers.specs.Words.{Placed, waiting_as}
 use Rattle.ch_laws_peers.specs.Says.{node_in, node_of, IsUpOn, Says, AllSay}
 use Rattle.ch_laws_peers.specs.Standing.{Standing}
@@ -74,17 +73,9 @@ use Rattle.ch_laws_messages.proofs.SaidSends.{step_unsaid}
 use Rattle.ch_laws_messages.proofs.SaidSides.{up_end}
 use Rattle.ch_laws_messages.proofs.SaidStill.{up_waits, node_same, node_at}
 use Rattle.ch_laws_messages.proofs.SaidTold.{Turns, turns, told_found}
-use Rattle.ch_laws_messages.proofs.SaidTurned.{numbers_are}
+use Rattle.ch_laws_messages.proofs.SaidTurned.{numbers_are, begun_some, of_number}
 use Rattle.ch_laws_messages.proofs.SaidWhose.{UpHere, whose}
 use Rattle.ch_laws_messages.proofs.SaidWritten.{frames_read, wrote_both, frames_behind, frames_still}
-
--- an end that has begun has written something
-begun_some : (which : End) (pieces : List (List ℕ)) → Begun which pieces → (first : List ℕ) × (rest : List (List ℕ)) × (pieces ≡ first ∷ rest)
-begun_some which [] b = absurd b
-begun_some which (first ∷ rest) b = (first, rest, refl)
-
-of_number : (place n : ℕ) (c m : Option ℕ) → c ≡ Some place → m ≡ Some n → (ends.same_number c place && ends.same_number m n) ≡ true
-of_number place n c m e f = ap (λ (x : Option ℕ). ends.same_number x place && ends.same_number m n) e ∙ ap (λ (x : Option ℕ). (place == place) && ends.same_number x n) f ∙ ap (λ (b : Bool). b && (n == n)) (number_same place) ∙ number_same n
 
 -- ---- nothing is said
 

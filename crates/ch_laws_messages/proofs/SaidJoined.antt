@@ -12,7 +12,7 @@ use Rattle.ch_model.specs.declared.entry.Entry.{Entry}
 use Rattle.ch_model.specs.declared.entry.Entry.TheVariants as entries
 use Rattle.ch_model.specs.declared.line.Line.{Line}
 use Rattle.ch_model.specs.declared.name.End.{End}
-use Rattle.ch_model.specs.declared.name.End.TheVariants.{O, T}
+use Rattle.ch_model.specs.declared.name.End.TheVariants.{O}
 use Rattle.ch_model.specs.declared.name.SockName.{SockName}
 use Rattle.ch_model.specs.declared.step.SocketEvent.TheVariants as sockets
 use Rattle.ch_model.specs.declared.step.Step.{Step}
@@ -57,6 +57,7 @@ use Rattle.ch_laws_messages.proofs.SaidStill.{still_streams, up_waits, node_same
 use Rattle.ch_laws_messages.proofs.SaidTold.{told_found}
 use Rattle.ch_laws_messages.proofs.SaidTurned.{numbers_are}
 use Rattle.ch_laws_messages.proofs.SaidWritten.{wrote_both}
+use Rattle.ch_laws_messages.proofs.CarriedAlone.{same_end_is}
 
 -- ---- entries that bring no frame
 
@@ -85,12 +86,6 @@ brings_say journal log world told after st say b r party pair x = stays journal 
 -- nothing is told, or what an end writes first
 abbrev pub IsFirstOf : List Entry → List Entry → Type 0
 IsFirstOf log told = (told ≡ []) ⊎ ((s : SockName) × (e : End) × (bytes : List ℕ) × (told ≡ entries.Wrote s e bytes ∷ []) × (writings log s e ≡ []))
-
-same_end_is : (a b : End) → same_end a b ≡ true → a ≡ b
-same_end_is O O e = refl
-same_end_is O T e = absurd cc
-same_end_is T O e = absurd cc
-same_end_is T T e = refl
 
 unwritten : (x y : List ℕ) (log : List Entry) (s : SockName) (e : End) (bytes : List ℕ) → writings log s e ≡ [] → written_by x y log (entries.Wrote s e bytes) ≡ None
 unwritten x y log s e bytes none = ap (λ (l : List (List ℕ)). (elim (is_end_of x y s e && not (length l == 0)) as (λ b. Option Frame) [ true ↦ frame_of bytes | false ↦ None ])) none ∙ by_both (is_end_of x y s e) (0 == 0) (number_same 0) where

@@ -1,10 +1,9 @@
 -- Who of a node's processes is over: none more where a message is said, and one where a process ends.
-use Rattle.std.proofs.Common.{◌≡◌, ◌≤◌, ℕ, zero, suc, Bool, true, false, cond, ◌&&◌, List, [], ◌∷◌, length, Ok, Err, refl, sym, ap, ◌∙◌, arith}
+use Rattle.std.proofs.Common.{◌≡◌, ◌≤◌, ℕ, zero, suc, Bool, true, false, cond, List, [], ◌∷◌, length, Ok, Err, refl, sym, ap, ◌∙◌, arith}
 use Rattle.std.proofs.lemmas.List.{length-map}
 use Rattle.std.proofs.lemmas.Option.{slice_get-map}
 use Rattle.std.specs.Option.{option_map, option_map_or}
 use Rattle.std.specs.Prelude.{Result, filter, map, not, slice_get, Option, Some, None, ◌==◌}
-use Rattle.ch_base.specs.declared.address.Address.{Address}
 use Rattle.ch_base.specs.declared.event.Room.{Room}
 use Rattle.ch_ident.specs.declared.identifier.ProcessId.{ProcessId}
 use Rattle.ch_ident.specs.declared.identifier.Ref.{Ref}
@@ -20,7 +19,6 @@ use Rattle.ch_static.specs.declared.command.Command.TheVariants as commands
 use Rattle.ch_static.specs.declared.target.Target.{Target}
 use Rattle.ch_static.specs.declared.target.Target.TheVariants as targets
 use Rattle.ch_watch.specs.declared.watched.Watched.{Watched}
-use Rattle.ch_watch.specs.Same.{same_node}
 use Rattle.ch_watch.specs.Watches.{ended_of, ending_of}
 use Rattle.ch_model.specs.declared.act.Act.{Act}
 use Rattle.ch_model.specs.declared.act.Act.TheVariants as acts
@@ -43,6 +41,8 @@ use Rattle.ch_laws_lives.proofs.Mails.{Keeps, put_keeps, EndsOne, ends_one}
 use Rattle.ch_laws_plain_nodes.specs.Plain.{IsPlain}
 use Rattle.ch_laws_plain_nodes.proofs.Steps.{Claim, Holds, bound, stopped, later, given_so}
 use Rattle.ch_laws_messages.proofs.SaidAsks.{acts_so, went}
+use Rattle.ch_laws_messages.proofs.GotLiving.{over_long}
+use Rattle.ch_laws_messages.proofs.SaidHears.{own_so}
 
 -- ---- a process lives by what is told of it
 
@@ -60,10 +60,6 @@ living_in node b = by_own (is_own node (process_id node b)) ∙ ap (λ (o : Opti
   by_own : (own : Bool) → option_map_or (λ (life : Life). not (is_over life)) (cond own (option_map (λ (p : Process). p.life) (slice_get node.mail b)) None) false ≡ cond own (alive (option_map (λ (p : Process). is_over p.life) (slice_get node.mail b))) false
   by_own true = by_process (slice_get node.mail b)
   by_own false = refl
-
-own_so : (a b : NodeState) (k : ℕ) → a.own ≡ b.own → a.unique ≡ b.unique → is_own a (process_id a k) ≡ is_own b (process_id b k)
-unfolding is_own
-own_so a b k own unique = ap (λ (o : Address). same_node o o && (a.unique == a.unique)) own ∙ ap (λ (u : ℕ). same_node b.own b.own && (u == u)) unique
 
 -- who is over as before lives as before
 pub living_as : (node next : NodeState) (b : ℕ) → next.own ≡ node.own → next.unique ≡ node.unique → slice_get (ends_of next.mail) b ≡ slice_get (ends_of node.mail) b → is_living next (process_id next b) ≡ is_living node (process_id node b)
@@ -149,11 +145,6 @@ unfolding node_command
 send_ends node next by to said room done e = given_so (SameEnds node) (send_of node by to said room) done next (send_same node by to said room) e
 
 -- ---- a process ends
-
-over_long : (n : ℕ) (all : List Bool) → length (over_at n all) ≡ length all
-over_long n [] = refl
-over_long zero (e ∷ all) = refl
-over_long (suc n) (e ∷ all) = ap suc (over_long n all)
 
 over_there : (n : ℕ) (all : List Bool) → slice_get all n ≡ Some false → slice_get (over_at n all) n ≡ Some true
 over_there n [] e = absurd cc

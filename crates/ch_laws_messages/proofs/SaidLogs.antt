@@ -27,17 +27,13 @@ use Rattle.ch_laws_calls.specs.Scenes.{scene_of}
 use Rattle.ch_laws_log.proofs.Stored.{same_is, self_same}
 use Rattle.ch_laws_peers.specs.Says.{written_by, frames_towards, IsUpOn}
 use Rattle.ch_laws_messages.specs.SaidGoes.{frames_to, IsOne}
+use Rattle.ch_laws_messages.proofs.PayloadsOwners.{back_none, front_none}
+use Rattle.ch_laws_messages.proofs.CarriedLogs.{by_last}
+use Rattle.ch_laws_messages.proofs.CarriedAlone.{same_end_is}
 
 -- ---- one more entry
 
--- what is so of no entry, and of one more, is so of each log
-pub by_last : (P : List Entry → Type 0) → P [] → ((log : List Entry) (entry : Entry) → P log → P (log ++ entry ∷ [])) → (log : List Entry) → P log
-by_last P none more log = from [] log none where
-  from : (before xs : List Entry) → P before → P (before ++ xs)
-  from before [] p = subst P (sym (append-nil before)) p
-  from before (entry ∷ xs) p = subst P (append_assoc before (entry ∷ []) xs) (from (before ++ entry ∷ []) xs (more before entry p))
-
-collected_more : {B : Type 0} (look : List Entry → Entry → Option B) (before xs : List Entry) (kept : List B) (entry : Entry) → collected_after never look before kept (xs ++ entry ∷ []) ≡ kept_with (look (before ++ xs) entry) (collected_after never look before kept xs)
+pub collected_more : {B : Type 0} (look : List Entry → Entry → Option B) (before xs : List Entry) (kept : List B) (entry : Entry) → collected_after never look before kept (xs ++ entry ∷ []) ≡ kept_with (look (before ++ xs) entry) (collected_after never look before kept xs)
 collected_more look before [] kept entry = ap (λ (l : List Entry). kept_with (look l entry) kept) (sym (append-nil before))
 collected_more look before (x ∷ xs) kept entry = collected_more look (before ++ x ∷ []) xs (kept_with (look before x) kept) entry ∙ ap (λ (l : List Entry). kept_with (look l entry) (collected_after never look (before ++ x ∷ []) (kept_with (look before x) kept) xs)) (append_assoc before (x ∷ []) xs)
 
@@ -60,7 +56,7 @@ frames_more log entry s e = ap (λ (l : List (List ℕ)). filter_map frame_of (d
 abbrev pub IsSilent : Entry → Type 0
 IsSilent entry = (s : SockName) (e : End) → writing s e entry ≡ None
 
-same_self : (e : End) → same_end e e ≡ true
+pub same_self : (e : End) → same_end e e ≡ true
 same_self O = refl
 same_self T = refl
 
@@ -91,24 +87,10 @@ frames_at (Some at) log = frames_of log at.0 at.1
 abbrev pub OthersNone : List ℕ → List ℕ → Option (SockName × End) → List Entry → Type 0
 OthersNone x y o log = (s : SockName) (e : End) → is_end_of x y s e ≡ true → is_chosen o s e ≡ false → frames_of log s e ≡ []
 
-front_none : {A : Type 0} (xs ys : List A) → xs ++ ys ≡ [] → xs ≡ []
-front_none [] ys e = refl
-front_none (x ∷ xs) ys e = absurd cc
-
-back_none : {A : Type 0} (xs ys : List A) → xs ++ ys ≡ [] → ys ≡ []
-back_none [] ys e = e
-back_none (x ∷ xs) ys e = absurd cc
-
 others_before : (x y : List ℕ) (o : Option (SockName × End)) (log : List Entry) (entry : Entry) → OthersNone x y o (log ++ entry ∷ []) → OthersNone x y o log
 others_before x y o log entry n s e is off = front_none (frames_of log s e) (later (writings log s e) (writing s e entry)) (sym (frames_more log entry s e) ∙ n s e is off)
 
-same_end_is : (a b : End) → same_end a b ≡ true → a ≡ b
-same_end_is O O e = refl
-same_end_is O T e = absurd cc
-same_end_is T O e = absurd cc
-same_end_is T T e = refl
-
-kept_is : (o : Option Frame) (kept : List Frame) → kept_with o kept ≡ kept ++ cons_option o []
+pub kept_is : (o : Option Frame) (kept : List Frame) → kept_with o kept ≡ kept ++ cons_option o []
 kept_is None kept = sym (append-nil kept)
 kept_is (Some frame) kept = refl
 
@@ -121,7 +103,7 @@ none_frame : (o : Option Frame) → ◌≡◌ {A = List Frame} (cons_option o []
 none_frame None e = refl
 none_frame (Some frame) e = absurd cc
 
-wrote_self : (s : SockName) (e : End) (bytes : List ℕ) → writing s e (entries.Wrote s e bytes) ≡ Some bytes
+pub wrote_self : (s : SockName) (e : End) (bytes : List ℕ) → writing s e (entries.Wrote s e bytes) ≡ Some bytes
 wrote_self s e bytes = ap (λ (b : Bool). cond b (Some bytes) None) (ap (λ (b : Bool). b && same_end e e) (self_same s) ∙ same_self e)
 
 -- an item written at the end
@@ -195,15 +177,15 @@ all_at x y o log is = by_last (λ log. OthersNone x y o log → frames_towards x
 
 -- ---- where frames are written only while x is up
 
-abbrev number_of : LinkState → ℕ
+abbrev pub number_of : LinkState → ℕ
 number_of (Up number probed) = number
 number_of state = 0
 
-one_found : (a b : SockName × End) → ◌≡◌ {A = Option (SockName × End)} (Some a) (Some b) → a ≡ b
+pub one_found : (a b : SockName × End) → ◌≡◌ {A = Option (SockName × End)} (Some a) (Some b) → a ≡ b
 one_found a b e = cc
 
 -- it is up on one end alone
-same_place : (party : Side → Party) (world : World) (x : Side) (s : SockName) (e : End) (t : SockName) (f : End) → IsUpOn party world x s e → IsUpOn party world x t f → ◌≡◌ {A = SockName × End} (t, f) (s, e)
+pub same_place : (party : Side → Party) (world : World) (x : Side) (s : SockName) (e : End) (t : SockName) (f : End) → IsUpOn party world x s e → IsUpOn party world x t f → ◌≡◌ {A = SockName × End} (t, f) (s, e)
 same_place party world x s e t f u v = one_found (t, f) (s, e) (sym v.found ∙ ap (λ (n : ℕ). find_end (party x).place n world.sockets) (ap number_of (sym v.up ∙ u.up)) ∙ u.found)
 
 others_none : (party : Side → Party) (log : List Entry) (world : World) (x : Side) (s : SockName) (e : End) → IsUpOn party world x s e → (t : SockName) (f : End) → (same_socket t s && same_end f e) ≡ false → (frames_of log t f ≡ []) ⊎ IsUpOn party world x t f → frames_of log t f ≡ []

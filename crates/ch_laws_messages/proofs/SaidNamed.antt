@@ -33,11 +33,9 @@ use Rattle.ch_laws_log.proofs.Homes.{SeatsAt, AllAtHome, Housed, fresh_housed, c
 use Rattle.ch_laws_log.proofs.Stored.{number_is}
 use Rattle.ch_laws_calls.proofs.ScenesPlaces.{homed_as}
 use Rattle.ch_laws_world.specs.Grows.{Home, home_of, homes_of}
+use Rattle.ch_laws_messages.proofs.SaidEnds.{some_is}
 
 -- ---- names and ids
-
-some_is : {A : Type 0} {a b : A} → ◌≡◌ {A = Option A} (Some a) (Some b) → a ≡ b
-some_is e = cc
 
 -- as what a name stands for is declared
 abbrev peer_as : Named → Peer

@@ -141,7 +141,7 @@ found_some : {A : Type 0} (x : Option A) (a : A) → found_or x ≡ Ok a → x �
 found_some (Some x) a e = let is : x ≡ a = cc in ap Some is
 found_some None a e = absurd cc
 
-one_of : {A : Type 0} (x y : A) → ◌≡◌ {A = Option A} (Some x) (Some y) → x ≡ y
+pub one_of : {A : Type 0} (x y : A) → ◌≡◌ {A = Option A} (Some x) (Some y) → x ≡ y
 one_of x y e = cc
 
 one_given : {A : Type 0} (x y : A) → ◌≡◌ {A = Result A EndError} (Ok x) (Ok y) → x ≡ y

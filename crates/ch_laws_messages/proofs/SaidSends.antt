@@ -68,6 +68,7 @@ use Rattle.ch_laws_messages.proofs.SaidStill.{node_at, node_same}
 use Rattle.ch_laws_messages.proofs.SaidTurn.{turn_say}
 use Rattle.ch_laws_messages.proofs.SaidTurned.{link_here}
 use Rattle.ch_laws_messages.proofs.SaidUtters.{puts_utters, puts_dial}
+use Rattle.ch_laws_messages.proofs.SaidAskedAway.{one_process}
 
 -- ---- what is told
 
@@ -101,13 +102,6 @@ steps_unsaid x y place cell (step ∷ rest) world = filter_map-append (said_by x
 living_same : (node next : NodeState) (b : ℕ) → next ≡ record node { pairs = next.pairs; opened = next.opened } → is_living next (process_id next b) ≡ is_living node (process_id node b)
 unfolding is_living life_here is_own
 living_same node next b same = ap (λ (n : NodeState). is_living n (process_id n b)) same
-
-pub one_process : (a b : ProcessId) → same_process a b ≡ true → a ≡ b
-unfolding same_process
-one_process a b h =
-    let first = and_parts (same_node a.node b.node) ((a.unique == b.unique) && (a.counter == b.counter)) h in
-    let rest = and_parts (a.unique == b.unique) (a.counter == b.counter) first.1 in
-    ap (λ (z : Address). record a { node = z }) (node_is a.node b.node first.0) ∙ ap (λ (z : ℕ). record a { node = b.node; unique = z }) (number_is a.unique b.unique rest.0) ∙ ap (λ (z : ℕ). record b { counter = z }) (number_is a.counter b.counter rest.1)
 
 pub process_self : (a : ProcessId) → same_process a a ≡ true
 unfolding same_process

@@ -1,21 +1,19 @@
 -- A process takes a message from its mailbox: nothing is said.
-use Rattle.std.proofs.Common.{◌≡◌, ◌⊎◌, inl, inr, ◌≤◌, ℕ, zero, suc, Bool, true, false, cond, List, [], ◌∷◌, ◌++◌, length, Ok, Err, refl, sym, ap, ◌∙◌, subst, arith}
-use Rattle.std.specs.Option.{option_map, option_map_or}
-use Rattle.std.specs.Prelude.{find, slice_get, slice_set, Option, Some, None, Result, not, ◌&&◌, ◌==◌}
-use Rattle.ch_base.specs.declared.address.Address.{Address}
+use Rattle.std.proofs.Common.{◌≡◌, ◌⊎◌, inl, inr, ◌≤◌, ℕ, Bool, true, false, cond, List, [], ◌∷◌, ◌++◌, length, Ok, Err, refl, sym, ap, ◌∙◌, subst, arith}
+use Rattle.std.specs.Option.{option_map}
+use Rattle.std.specs.Prelude.{find, slice_get, slice_set, Option, Some, None, Result, ◌==◌}
 use Rattle.ch_ident.specs.declared.identifier.ProcessId.{ProcessId}
 use Rattle.ch_ident.specs.declared.message.Message.{Message}
 use Rattle.ch_base.specs.declared.event.Room.{Room}
 use Rattle.ch_mail.specs.declared.error.MailError.{MailError}
 use Rattle.ch_mail.specs.declared.error.MailError.TheVariants.{NotLive, Empty}
 use Rattle.ch_mail.specs.declared.life.Life.{Life}
-use Rattle.ch_mail.specs.Lives.{is_live, is_over}
+use Rattle.ch_mail.specs.Lives.{is_live}
 use Rattle.ch_mail.specs.Mail.{◌>>=◌, there_or, taken_from, take_of, life_of}
 use Rattle.ch_mail.specs.Queue.{first_of_mark}
 use Rattle.ch_mail.specs.Process.{Process}
 use Rattle.ch_static.specs.declared.command.Command.TheVariants as commands
 use Rattle.ch_static.specs.declared.target.Target.TheVariants as targets
-use Rattle.ch_watch.specs.Same.{same_node}
 use Rattle.ch_model.specs.declared.act.Act.{Act}
 use Rattle.ch_model.specs.declared.act.Act.TheVariants as acts
 use Rattle.ch_model.specs.declared.command.CommandError.{CommandError}
@@ -29,7 +27,7 @@ use Rattle.ch_model.specs.Node.{node_command}
 use Rattle.ch_model.specs.NodeActs as node_acts
 use Rattle.ch_model.specs.NodeActs.{mailed}
 use Rattle.ch_model.specs.NodeCommands.{receive_of}
-use Rattle.ch_model.specs.NodeIds.{process_id, is_own, life_here, is_living}
+use Rattle.ch_model.specs.NodeIds.{process_id, is_own}
 use Rattle.ch_model.specs.NodePairs.{is_pair, pair_of}
 use Rattle.ch_model.specs.NodeRoom.{acting}
 use Rattle.ch_model.specs.NodeState.{NodeState, Pair}
@@ -48,6 +46,7 @@ use Rattle.ch_laws_peers.specs.Standing.{Standing}
 use Rattle.ch_laws_messages.specs.SaidGoes.{given_to, mark_of, NodeStays}
 use Rattle.ch_laws_messages.proofs.SaidMakes.{one_note, stored_in, seen_in}
 use Rattle.ch_laws_messages.proofs.SaidStill.{AreQuiet, node_same, quiet_turn}
+use Rattle.ch_laws_messages.proofs.SaidHears.{lives_by, living_is, own_so, set_length}
 
 -- ---- lives
 
@@ -65,11 +64,6 @@ taken_life process mark taken e = by_live (is_live process.life) e where
   by_live : (b : Bool) → cond b (there_or Empty (first_of_mark mark process.mailbox) >>= (λ (x : Message × List Message). Ok (x.0, record process { mailbox = x.1 }))) (Err NotLive) ≡ Ok taken → taken.1.life ≡ process.life
   by_live true e = by_first (first_of_mark mark process.mailbox) e
   by_live false e = absurd cc
-
-set_length : (mail : List Process) (n : ℕ) (p : Process) → length (slice_set mail n p) ≡ length mail
-set_length [] n p = refl
-set_length (x ∷ mail) zero p = refl
-set_length (x ∷ mail) (suc n) p = ap suc (set_length mail n p)
 
 -- so it is of all
 pub take_lives : (mail : List Process) (number : ℕ) (mark : List ℕ) (r : Message × List Process) → take_of mail number mark ≡ Ok r → (length r.1 ≡ length mail) × ((k : ℕ) → life_of r.1 k ≡ life_of mail k)
@@ -111,17 +105,6 @@ takes_lives node next by mark room done e = by_acting (acting node by) e where
   by_acting (Ok live) e = by_taken (take_of node.mail by mark) refl e
 
 -- ---- the turn
-
-abbrev lives_by : Bool → Option Life → Bool
-lives_by own life = option_map_or (λ life. not (is_over life)) (cond own life None) false
-
-living_is : (node : NodeState) (b : ℕ) → is_living node (process_id node b) ≡ lives_by (is_own node (process_id node b)) (life_of node.mail b)
-unfolding is_living life_here
-living_is node b = refl
-
-own_so : (a b : NodeState) (k : ℕ) → a.own ≡ b.own → a.unique ≡ b.unique → is_own a (process_id a k) ≡ is_own b (process_id b k)
-unfolding is_own
-own_so a b k own unique = ap (λ (o : Address). same_node o o && (a.unique == a.unique)) own ∙ ap (λ (u : ℕ). same_node b.own b.own && (u == u)) unique
 
 taken_stays : (journal : List Line) (log : List Entry) (party : Side → Party) (x : Side) (world after : World) (node next : NodeState) → Says journal log world party x → node_of party world x ≡ Some node → next ≡ record node { mail = next.mail; args = next.args } → Lives node next
     → ((conn id : ℕ) → given_to party world x conn ≡ Some id → given_to party after x conn ≡ Some id) → NodeStays party x world after next

@@ -29,7 +29,7 @@ use Rattle.ch_laws_ends.proofs.Changes.{OnDial, step_as}
 use Rattle.ch_laws_ends.proofs.Found.{KeepsPlace, EachFound, each_kept, new_name}
 use Rattle.ch_laws_ends.proofs.Known.{Sorted, keeps_sorted}
 use Rattle.ch_laws_log.proofs.Kept.{one_told}
-use Rattle.ch_laws_log.proofs.Stored.{same_is, self_same, find_stored, found_end, next_is_new, Distinct}
+use Rattle.ch_laws_log.proofs.Stored.{same_is, self_same, found_end, next_is_new, Distinct}
 use Rattle.ch_laws_log.proofs.WorldEnds.{found_is}
 use Rattle.ch_laws_calls.specs.FitsTurns.{NoDials}
 use Rattle.ch_laws_ids.specs.Runs.{pieces_at, pieces_for}
@@ -44,65 +44,12 @@ use Rattle.ch_laws_calls.specs.Turns.{told_on}
 use Rattle.ch_laws_ends.proofs.Found.{new_found}
 use Rattle.ch_laws_links.proofs.Found.{or_end}
 use Rattle.ch_laws_messages.specs.SaidPuts.{DialsOne}
-
--- ---- sockets that stay
-
--- the socket was there, with its ends in their places
-record Was (world : World) (s : SockName) (socket : WorldSocket) : Type 0 where
-  before : WorldSocket
-  found : find (is_socket_named s) world.sockets ≡ Some before
-  cell : (e : End) → (end_of e socket).cell ≡ (end_of e before).cell
-  number : (e : End) → (end_of e socket).number ≡ (end_of e before).number
-
--- the sockets are those that were there
-record Same (world after : World) : Type 0 where
-  was : (s : SockName) (socket : WorldSocket) → find (is_socket_named s) after.sockets ≡ Some socket → Was world s socket
-  none : (s : SockName) → find (is_socket_named s) after.sockets ≡ None → find (is_socket_named s) world.sockets ≡ None
-
-same_self : (world after : World) → after.sockets ≡ world.sockets → Same world after
-same_self world after is = record {
-  was = λ s socket found. record { before = socket; found = ap (find (is_socket_named s)) (sym is) ∙ found; cell = λ e. refl; number = λ e. refl };
-  none = λ s none. ap (find (is_socket_named s)) (sym is) ∙ none;
-}
-
-same_onward : (one two three : World) → Same one two → Same two three → Same one three
-same_onward one two three a b = record {
-  was = λ s socket found. let late = b.was s socket found in let soon = a.was s late.before late.found in record { before = soon.before; found = soon.found; cell = λ e. late.cell e ∙ soon.cell e; number = λ e. late.number e ∙ soon.number e };
-  none = λ s none. a.none s (b.none s none);
-}
-
--- an end is changed in its place
-same_change : (s : SockName) (e : End) (f : WorldEnd → WorldEnd) (world : World) → KeepsPlace f → Same world (with_end_of s e f world)
-same_change s e f world k = by_socket (find (is_socket_named s) world.sockets) refl where
-  place : (old : WorldSocket) (e x : End) → ((end_of x (with_end e (f (end_of e old)) old)).cell ≡ (end_of x old).cell) × ((end_of x (with_end e (f (end_of e old)) old)).number ≡ (end_of x old).number)
-  place old O O = k old.o
-  place old O T = (refl, refl)
-  place old T O = (refl, refl)
-  place old T T = k old.t
-
-  by_name : (old : WorldSocket) → find (is_socket_named s) world.sockets ≡ Some old → (t : SockName) (socket : WorldSocket) (b : Bool) → same_socket s t ≡ b → cond b (Some (with_end e (f (end_of e old)) old)) (find (is_socket_named t) world.sockets) ≡ Some socket → Was world t socket
-  by_name old is t socket true h found =
-      let new : with_end e (f (end_of e old)) old ≡ socket = cc in
-      subst (Was world t) new (record { before = old; found = subst (λ (n : SockName). find (is_socket_named n) world.sockets ≡ Some old) (same_is s t h) is; cell = λ x. (place old e x).0; number = λ x. (place old e x).1 })
-  by_name old is t socket false h found = record { before = socket; found = found; cell = λ x. refl; number = λ x. refl }
-
-  by_none : (new : WorldSocket) (t : SockName) (b : Bool) → cond b (Some new) (find (is_socket_named t) world.sockets) ≡ None → find (is_socket_named t) world.sockets ≡ None
-  by_none new t true none = absurd cc
-  by_none new t false none = none
-
-  by_socket : (o : Option WorldSocket) → find (is_socket_named s) world.sockets ≡ o → Same world (elim o as (λ o. World) [
-    | None ↦ world
-    | Some socket ↦ with_socket (with_end e (f (end_of e socket)) socket) world
-  ])
-  by_socket None is = same_self world world refl
-  by_socket (Some old) is = record {
-    was = λ t socket found. by_name old is t socket (same_socket s t) refl (ap (λ (n : SockName). cond (same_socket n t) (Some (with_end e (f (end_of e old)) old)) (find (is_socket_named t) world.sockets)) (sym (new_name s e (f (end_of e old)) world.sockets old is)) ∙ sym (find_stored (with_end e (f (end_of e old)) old) world.sockets t) ∙ found);
-    none = λ t none. by_none (with_end e (f (end_of e old)) old) t (same_socket (with_end e (f (end_of e old)) old).name t) (sym (find_stored (with_end e (f (end_of e old)) old) world.sockets t) ∙ none);
-  }
+use Rattle.ch_laws_messages.proofs.CarriedAlone.{same_end_is}
+use Rattle.ch_laws_ids.proofs.Worlds.{Same, same_self, same_onward, same_change}
 
 -- ---- one step
 
-first_alone : (step : Step) (rest : List Step) → NoDials (step ∷ rest) → NoDials (step ∷ []) × NoDials rest
+pub first_alone : (step : Step) (rest : List Step) → NoDials (step ∷ rest) → NoDials (step ∷ []) × NoDials rest
 first_alone (steps.Dial sock end peer) rest n = absurd n
 first_alone (steps.Read sock) rest n = (tt, n)
 first_alone (steps.Write sock bytes said) rest n = (tt, n)
@@ -112,7 +59,7 @@ first_alone (steps.Left sock) rest n = (tt, n)
 first_alone (steps.Broke end peer why) rest n = (tt, n)
 first_alone (steps.Post end event) rest n = (tt, n)
 
-no_dial : (P : World → Type 0) (place : ℕ) (cell : Cell) (step : Step) (world : World) → NoDials (step ∷ []) → OnDial P place cell step world
+pub no_dial : (P : World → Type 0) (place : ℕ) (cell : Cell) (step : Step) (world : World) → NoDials (step ∷ []) → OnDial P place cell step world
 no_dial P place cell (steps.Dial sock end peer) world n = absurd n
 no_dial P place cell (steps.Read sock) world n = tt
 no_dial P place cell (steps.Write sock bytes said) world n = tt
@@ -122,20 +69,14 @@ no_dial P place cell (steps.Left sock) world n = tt
 no_dial P place cell (steps.Broke end peer why) world n = tt
 no_dial P place cell (steps.Post end event) world n = tt
 
-step_same : (place : ℕ) (cell : Cell) (step : Step) (world : World) → NoDials (step ∷ []) → Same world (stepped place cell step world).1
+pub step_same : (place : ℕ) (cell : Cell) (step : Step) (world : World) → NoDials (step ∷ []) → Same world (stepped place cell step world).1
 step_same place cell step world n = step_as (Same world) (λ one two c s k. same_onward world one two k (same_self one two s)) place cell step world (no_dial (Same world) place cell step world n) (λ s e f c. same_change s e f world c.changes.place) (same_self world world refl)
 
-step_each : (place : ℕ) (cell : Cell) (step : Step) (world : World) → NoDials (step ∷ []) → EachFound world.sockets → EachFound (stepped place cell step world).1.sockets
+pub step_each : (place : ℕ) (cell : Cell) (step : Step) (world : World) → NoDials (step ∷ []) → EachFound world.sockets → EachFound (stepped place cell step world).1.sockets
 step_each place cell step world n each = step_as (λ w. EachFound w.sockets) (λ one two c s k. subst EachFound (sym s) k) place cell step world (no_dial (λ w. EachFound w.sockets) place cell step world n) (λ s e f c. each_kept s e f world c.changes.place each) each
 
-same_end_is : (a b : End) → same_end a b ≡ true → a ≡ b
-same_end_is O O e = refl
-same_end_is O T e = absurd cc
-same_end_is T O e = absurd cc
-same_end_is T T e = refl
-
 -- what is written on an end that is found, or nothing
-on_end_writes : (place sock : ℕ) (f : SockName × End → World → List Entry × World) (world : World) (s : SockName) (e : End) (pieces : List (List ℕ)) → ((at : SockName × End) → find_end place sock world.sockets ≡ Some at → writings (f at world).0 s e ≡ pieces) → (find_end place sock world.sockets ≡ None → [] ≡ pieces) → writings (on_end place sock f world).0 s e ≡ pieces
+pub on_end_writes : (place sock : ℕ) (f : SockName × End → World → List Entry × World) (world : World) (s : SockName) (e : End) (pieces : List (List ℕ)) → ((at : SockName × End) → find_end place sock world.sockets ≡ Some at → writings (f at world).0 s e ≡ pieces) → (find_end place sock world.sockets ≡ None → [] ≡ pieces) → writings (on_end place sock f world).0 s e ≡ pieces
 on_end_writes place sock f world s e pieces each none = by_end (find_end place sock world.sockets) refl where
   by_end : (o : Option (SockName × End)) → find_end place sock world.sockets ≡ o → writings (elim o as (λ o. List Entry × World) [
     | None ↦ ([], world)
@@ -144,14 +85,14 @@ on_end_writes place sock f world s e pieces each none = by_end (find_end place s
   by_end None h = none h
   by_end (Some at) h = each at h
 
-wrote_there : (at : SockName × End) (bytes : List ℕ) (s : SockName) (e : End) (b : Bool) → (same_socket at.0 s && same_end at.1 e) ≡ b → writings (entries.Wrote at.0 at.1 bytes ∷ []) s e ≡ cond b (bytes ∷ []) []
+pub wrote_there : (at : SockName × End) (bytes : List ℕ) (s : SockName) (e : End) (b : Bool) → (same_socket at.0 s && same_end at.1 e) ≡ b → writings (entries.Wrote at.0 at.1 bytes ∷ []) s e ≡ cond b (bytes ∷ []) []
 wrote_there at bytes s e b h = ap (λ c. cons_option (cond c (Some bytes) None) []) h ∙ by_test b where
   by_test : (b : Bool) → cons_option (cond b (Some bytes) None) [] ≡ cond b (bytes ∷ []) []
   by_test true = refl
   by_test false = refl
 
 -- the pieces of one step
-silent_pieces : (place : ℕ) (step : Step) (cell number : Option ℕ) → ((n : ℕ) → pieces_at n (step ∷ []) ≡ []) → [] ≡ pieces_for place (step ∷ []) cell number
+pub silent_pieces : (place : ℕ) (step : Step) (cell number : Option ℕ) → ((n : ℕ) → pieces_at n (step ∷ []) ≡ []) → [] ≡ pieces_for place (step ∷ []) cell number
 silent_pieces place step None number s = refl
 silent_pieces place step (Some p) None s = refl
 silent_pieces place step (Some p) (Some n) s = by_test (p == place) where
@@ -159,7 +100,7 @@ silent_pieces place step (Some p) (Some n) s = by_test (p == place) where
   by_test true = sym (s n)
   by_test false = refl
 
-write_pieces : (place sock : ℕ) (bytes : List ℕ) (said : Option Place) (end : WorldEnd) → pieces_for place (steps.Write sock bytes said ∷ []) end.cell end.number ≡ cond (is_end_of place sock end) (bytes ∷ []) []
+pub write_pieces : (place sock : ℕ) (bytes : List ℕ) (said : Option Place) (end : WorldEnd) → pieces_for place (steps.Write sock bytes said ∷ []) end.cell end.number ≡ cond (is_end_of place sock end) (bytes ∷ []) []
 write_pieces place sock bytes said end = by_end end.cell end.number where
   by_end : (c m : Option ℕ) → pieces_for place (steps.Write sock bytes said ∷ []) c m ≡ cond (same_number c place && same_number m sock) (bytes ∷ []) []
   by_end None m = refl
@@ -173,7 +114,7 @@ write_pieces place sock bytes said end = by_end end.cell end.number where
     by_test false = refl
 
 -- what a step writes at the end of a socket
-step_pieces : (place : ℕ) (cell : Cell) (step : Step) (world : World) (s : SockName) (socket : WorldSocket) (e : End) → Distinct world.sockets → EachFound world.sockets → NoDials (step ∷ []) → find (is_socket_named s) world.sockets ≡ Some socket
+pub step_pieces : (place : ℕ) (cell : Cell) (step : Step) (world : World) (s : SockName) (socket : WorldSocket) (e : End) → Distinct world.sockets → EachFound world.sockets → NoDials (step ∷ []) → find (is_socket_named s) world.sockets ≡ Some socket
     → writings (stepped place cell step world).0 s e ≡ pieces_for place (step ∷ []) (end_of e socket).cell (end_of e socket).number
 step_pieces place cell (steps.Dial sock end peer) world s socket e apart each n found = absurd n
 step_pieces place cell (steps.Read sock) world s socket e apart each n found = on_end_writes place sock reads_item world s e (pieces_for place (steps.Read sock ∷ []) (end_of e socket).cell (end_of e socket).number) (λ at h. silent_pieces place (steps.Read sock) (end_of e socket).cell (end_of e socket).number (λ m. refl)) (λ h. silent_pieces place (steps.Read sock) (end_of e socket).cell (end_of e socket).number (λ m. refl))
@@ -210,7 +151,7 @@ step_pieces place cell (steps.Broke end peer why) world s socket e apart each n 
 step_pieces place cell (steps.Post end event) world s socket e apart each n found = silent_pieces place (steps.Post end event) (end_of e socket).cell (end_of e socket).number (λ m. refl)
 
 -- nothing is written of a socket that isn't there
-step_none : (place : ℕ) (cell : Cell) (step : Step) (world : World) (s : SockName) (e : End) → NoDials (step ∷ []) → find (is_socket_named s) world.sockets ≡ None → writings (stepped place cell step world).0 s e ≡ []
+pub step_none : (place : ℕ) (cell : Cell) (step : Step) (world : World) (s : SockName) (e : End) → NoDials (step ∷ []) → find (is_socket_named s) world.sockets ≡ None → writings (stepped place cell step world).0 s e ≡ []
 step_none place cell (steps.Dial sock end peer) world s e n none = absurd n
 step_none place cell (steps.Read sock) world s e n none = on_end_writes place sock reads_item world s e [] (λ at h. refl) (λ h. refl)
 step_none place cell (steps.Write sock bytes said) world s e n none = on_end_writes place sock (λ at now. (entries.Wrote at.0 at.1 bytes ∷ [], with_end_of at.0 (other at.1) (item_arrives bytes said) now)) world s e []
@@ -230,7 +171,7 @@ step_none place cell (steps.Post end event) world s e n none = refl
 
 -- ---- all steps
 
-first_at : (n : ℕ) (step : Step) (rest : List Step) → pieces_at n (step ∷ rest) ≡ pieces_at n (step ∷ []) ++ pieces_at n rest
+pub first_at : (n : ℕ) (step : Step) (rest : List Step) → pieces_at n (step ∷ rest) ≡ pieces_at n (step ∷ []) ++ pieces_at n rest
 first_at n (steps.Write sock bytes said) rest = by_test (sock == n) where
   by_test : (b : Bool) → cond b (bytes ∷ pieces_at n rest) (pieces_at n rest) ≡ cond b (bytes ∷ []) [] ++ pieces_at n rest
   by_test true = refl
@@ -243,7 +184,7 @@ first_at n (steps.Left sock) rest = refl
 first_at n (steps.Broke end peer why) rest = refl
 first_at n (steps.Post end event) rest = refl
 
-first_for : (place : ℕ) (step : Step) (rest : List Step) (cell number : Option ℕ) → pieces_for place (step ∷ rest) cell number ≡ pieces_for place (step ∷ []) cell number ++ pieces_for place rest cell number
+pub first_for : (place : ℕ) (step : Step) (rest : List Step) (cell number : Option ℕ) → pieces_for place (step ∷ rest) cell number ≡ pieces_for place (step ∷ []) cell number ++ pieces_for place rest cell number
 first_for place step rest None number = refl
 first_for place step rest (Some p) None = refl
 first_for place step rest (Some p) (Some n) = by_test (p == place) where

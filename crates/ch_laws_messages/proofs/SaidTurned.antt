@@ -53,7 +53,7 @@ use Rattle.ch_laws_messages.proofs.SaidTold.{Turns, turns}
 use Rattle.ch_laws_messages.proofs.SaidWritten.{frames_behind, frames_still}
 
 -- an end that has begun has written something
-begun_some : (which : End) (pieces : List (List ℕ)) → Begun which pieces → (first : List ℕ) × (rest : List (List ℕ)) × (pieces ≡ first ∷ rest)
+pub begun_some : (which : End) (pieces : List (List ℕ)) → Begun which pieces → (first : List ℕ) × (rest : List (List ℕ)) × (pieces ≡ first ∷ rest)
 begun_some which [] b = absurd b
 begun_some which (first ∷ rest) b = (first, rest, refl)
 
@@ -66,15 +66,15 @@ numbers_are place n (Some p) None h = absurd (no (p == place) h) where
   no false h = absurd cc
 numbers_are place n (Some p) (Some k) h = let both = and_parts (p == place) (k == n) h in (ap (λ (q : ℕ). Some q) (number_is p place both.0), ap (λ (q : ℕ). Some q) (number_is k n both.1))
 
-of_number : (place n : ℕ) (c m : Option ℕ) → c ≡ Some place → m ≡ Some n → (ends.same_number c place && ends.same_number m n) ≡ true
+pub of_number : (place n : ℕ) (c m : Option ℕ) → c ≡ Some place → m ≡ Some n → (ends.same_number c place && ends.same_number m n) ≡ true
 of_number place n c m e f = ap (λ (x : Option ℕ). ends.same_number x place && ends.same_number m n) e ∙ ap (λ (x : Option ℕ). (place == place) && ends.same_number x n) f ∙ ap (λ (b : Bool). b && (n == n)) (number_same place) ∙ number_same n
 
-twice_is : (x : Side) → other (other x) ≡ x
+pub twice_is : (x : Side) → other (other x) ≡ x
 twice_is Lesser = refl
 twice_is Greater = refl
 
 -- what is so of a side and of the other is so of each
-either_side : (P : Side → Type 0) (x z : Side) → P x → P (other x) → P z
+pub either_side : (P : Side → Type 0) (x z : Side) → P x → P (other x) → P z
 either_side P Lesser Lesser p q = p
 either_side P Lesser Greater p q = q
 either_side P Greater Lesser p q = q

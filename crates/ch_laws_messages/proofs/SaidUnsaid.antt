@@ -13,7 +13,7 @@ use Rattle.ch_model.specs.declared.step.EndError.{EndError}
 use Rattle.ch_model.specs.declared.step.EndError.TheVariants as errors
 use Rattle.ch_model.specs.declared.step.Step.{Step}
 use Rattle.ch_model.specs.declared.step.Step.TheVariants as steps
-use Rattle.ch_model.specs.CellSteps.{Followed, ◌then◌, after_entries, told_steps, is_at, with_node, asked, act_on, acts_on, node_followed, posted, step_on, steps_on}
+use Rattle.ch_model.specs.CellSteps.{Followed, ◌then◌, after_entries, is_at, with_node, asked, act_on, acts_on, node_followed, posted, step_on, steps_on}
 use Rattle.ch_model.specs.HostCalls.{host_connect, host_send, host_close}
 use Rattle.ch_model.specs.HostState.{HostState}
 use Rattle.ch_model.specs.Node.{node_event}
@@ -21,6 +21,7 @@ use Rattle.ch_model.specs.NodeState.{NodeState}
 use Rattle.ch_model.specs.WorldState.{Cell}
 use Rattle.ch_laws_many.proofs.Quiet.{is_quiet, AreQuiet, Quiet, event_quiet}
 use Rattle.ch_laws_messages.specs.SaidHeeds.{IsUnsaid, AreUnsaid}
+use Rattle.ch_laws_messages.proofs.PayloadsTold.{steps_unsaid}
 
 abbrev AllUnsaid : Followed → Type 0
 AllUnsaid (Ok done) = AreUnsaid done.0
@@ -40,10 +41,6 @@ then_unsaid (Ok done) f a k = by_more (f done.1) (k done.1) where
   by_more : (more : Followed) → AllUnsaid more → AllUnsaid (after_entries done.0 more)
   by_more (Ok more) b = unsaid_both done.0 more.0 a b
   by_more (Err stop) b = tt
-
-steps_unsaid : (done : List Step) → AreUnsaid (told_steps done)
-steps_unsaid [] = tt
-steps_unsaid (step ∷ rest) = (tt, steps_unsaid rest)
 
 asked_unsaid : (cell : Cell) (done : Result (List Step × HostState) EndError) → AllUnsaid (asked cell done)
 asked_unsaid cell (Ok done) = steps_unsaid done.0

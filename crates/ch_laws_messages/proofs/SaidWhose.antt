@@ -11,7 +11,7 @@ use Rattle.ch_model.specs.Same.{is_end_of}
 use Rattle.ch_model.specs.WorldSockets as ends
 use Rattle.ch_model.specs.WorldSockets.{end_of, is_socket_named, find_end}
 use Rattle.ch_model.specs.WorldState.{Cell, WorldSocket, World}
-use Rattle.ch_race.specs.Pair.{Side, Lesser, Greater, other}
+use Rattle.ch_race.specs.Pair.{Side, other}
 use Rattle.ch_laws_calls.specs.Scenes.{IsOthersLink, SceneFacts}
 use Rattle.ch_laws_ends.proofs.Found.{EachFound}
 use Rattle.ch_laws_links.specs.Naming.{IsNaming}
@@ -22,6 +22,7 @@ use Rattle.ch_laws_race.specs.Scene.{Party, host_in, hosts_of}
 use Rattle.ch_laws_writes.proofs.Ordered.{is_key, at_key}
 use Rattle.ch_laws_writes.proofs.Worlds.{number_is, number_same}
 use Rattle.ch_laws_messages.proofs.SaidSides.{up_end, others_end, not_both}
+use Rattle.ch_laws_messages.proofs.SaidTurned.{either_side, twice_is}
 
 -- the node is of the cell, and its link is up on this end
 pub record UpHere (party : Side → Party) (x : Side) (world : World) (place : ℕ) (host : HostState) (s : SockName) (e : End) : Type 0 where
@@ -30,17 +31,6 @@ pub record UpHere (party : Side → Party) (x : Side) (world : World) (place : �
   pub probed : Bool
   pub up : (link_with host (party x).address.id (party (other x)).address).state ≡ states.Up n probed
   pub found : find_end place n world.sockets ≡ Some (s, e)
-
-twice_is : (x : Side) → other (other x) ≡ x
-twice_is Lesser = refl
-twice_is Greater = refl
-
--- what is so of a side and of the other is so of each
-either_side : (P : Side → Type 0) (x z : Side) → P x → P (other x) → P z
-either_side P Lesser Lesser p q = p
-either_side P Lesser Greater p q = q
-either_side P Greater Lesser p q = q
-either_side P Greater Greater p q = p
 
 one_found : {a b : SockName × End} → ◌≡◌ {A = Option (SockName × End)} (Some a) (Some b) → a ≡ b
 one_found e = cc

@@ -27,12 +27,12 @@ use Rattle.ch_laws_messages.specs.SaidPuts.{write_step, spelled}
 
 -- ---- frames are read back
 
-abbrev frame_in : Option Item → Option Frame
+abbrev pub frame_in : Option Item → Option Frame
 frame_in None = None
 frame_in (Some (items.Frame frame)) = Some frame
 frame_in (Some item) = None
 
-of_item : (bytes : List ℕ) (o : Option Item) → item_of_front (reading expected.Frame bytes) (length bytes) ≡ o → frame_of bytes ≡ frame_in o
+pub of_item : (bytes : List ℕ) (o : Option Item) → item_of_front (reading expected.Frame bytes) (length bytes) ≡ o → frame_of bytes ≡ frame_in o
 of_item bytes o e = subst (λ (x : Option Item). (elim x as (λ x. Option Frame) [
   | None ↦ None
   | Some item ↦ elim item as (λ i. Option Frame) [ items.Frame frame ↦ Some frame | _ ↦ None ]

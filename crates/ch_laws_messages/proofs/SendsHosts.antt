@@ -48,6 +48,7 @@ use Rattle.ch_model.specs.Stages.{Stage, Open, is_pending, is_open}
 use Rattle.ch_laws_links.proofs.Keys.{ended_rest}
 use Rattle.ch_laws_connections.specs.Tables.{loses_at}
 use Rattle.ch_laws_messages.specs.SendsSends.{AreWeighed, LinksWeighed}
+use Rattle.ch_laws_messages.proofs.GotHosts.{is_broke}
 
 -- ---- links that are kept
 
@@ -78,11 +79,6 @@ found_weighed test (known ∷ rest) link l e = by_test (test known) (found_weigh
   by_test false r e = r e
 
 -- ---- what is told
-
--- the step tells that a link is broken
-abbrev pub is_broke : Step → Bool
-is_broke (steps.Broke end peer why) = true
-is_broke step = false
 
 -- no node is told that its connections are lost, where no step tells that a link is broken
 abbrev pub IsHonest : List Step → Type 0

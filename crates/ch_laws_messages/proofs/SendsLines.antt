@@ -52,6 +52,7 @@ use Rattle.ch_laws_peers.specs.Standing.{IsOfNodes, Standing}
 use Rattle.ch_laws_messages.specs.SendsSends.{is_of_sends, is_answered_send, IsSmall, AreSmall, AllGive, FrontsStand}
 use Rattle.ch_laws_messages.proofs.SendsSmall.{says_small}
 use Rattle.ch_laws_messages.proofs.SendsAway.{send_answered}
+use Rattle.ch_laws_messages.proofs.MailFronts.{same_self}
 
 -- ---- what a journal reaches, and who acts there
 
@@ -177,20 +178,6 @@ stood_kept journal j log world number what of found s k = by_done (world_step wo
       by_done (Err stop) r p q = tt
 
 -- ---- one line
-
-same_self : (v : Verdict) → same_answer v v ≡ true
-same_self verdicts.Ok = refl
-same_self verdicts.Unknown = refl
-same_self verdicts.Dead = refl
-same_self verdicts.Hale = refl
-same_self verdicts.Taken = refl
-same_self verdicts.NoName = refl
-same_self verdicts.NoRef = refl
-same_self verdicts.Empty = refl
-same_self verdicts.Long = refl
-same_self verdicts.Full = refl
-same_self verdicts.Spent = refl
-same_self verdicts.Nothing = refl
 
 -- all that happened passes
 abbrev EachPasses : List Line → List Entry → Happened → Type 0

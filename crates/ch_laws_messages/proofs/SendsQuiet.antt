@@ -32,8 +32,8 @@ use Rattle.ch_race.specs.Pair.{other}
 use Rattle.ch_laws_epochs.specs.Numbers.{notes_in}
 use Rattle.ch_laws_messages.proofs.SendsBegun.{begun_from, begun_append, connections_more, told_begun, AllSilent, silent_from}
 use Rattle.ch_laws_messages.proofs.SendsHostActs.{SameGiven}
-use Rattle.ch_laws_messages.proofs.SendsHosts.{is_broke}
 use Rattle.ch_laws_messages.proofs.SendsRest.{rest_gives, last_plain, none_broke, steps_back, posts_break, next_same, on_same}
+use Rattle.ch_laws_messages.proofs.GotHosts.{is_broke}
 
 set_twice : {A : Type 0} (xs : List A) (place : ℕ) (one two : A) → slice_set (slice_set xs place one) place two ≡ slice_set xs place two
 set_twice [] place one two = refl

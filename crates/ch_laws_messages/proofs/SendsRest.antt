@@ -28,8 +28,9 @@ use Rattle.ch_laws_connections.proofs.HostLinks.{Goes, AllGo}
 use Rattle.ch_laws_plain_logs.specs.Plain.{is_plain, IsPlain}
 use Rattle.ch_laws_messages.specs.SendsSends.{LinksWeighed, AllGive}
 use Rattle.ch_laws_messages.proofs.SendsBegun.{begun_from, connections_more}
-use Rattle.ch_laws_messages.proofs.SendsHosts.{is_broke, IsHonest, next_well, on_well}
+use Rattle.ch_laws_messages.proofs.SendsHosts.{IsHonest, next_well, on_well}
 use Rattle.ch_laws_messages.proofs.SendsHostActs.{SameGiven}
+use Rattle.ch_laws_messages.proofs.GotHosts.{is_broke}
 
 -- ---- a cell that is set in its place
 

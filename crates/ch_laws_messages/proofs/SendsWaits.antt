@@ -19,10 +19,7 @@ use Rattle.ch_laws_calls.specs.Scenes.{scene_of}
 use Rattle.ch_laws_peers.specs.Words.{Placed, Word, words_in, waiting_as, sayings, placing, carried_after, TrueWord, TrueWords}
 use Rattle.ch_laws_peers.specs.Says.{IsPlaced, ArePlaced, frames_towards, all_towards, Says}
 use Rattle.ch_laws_messages.specs.SendsSends.{IsWeighed, AreWeighed}
-
-abbrev and_one : Bool → ℕ → ℕ
-and_one true n = suc n
-and_one false n = n
+use Rattle.ch_laws_messages.proofs.SendsHostActs.{and_one}
 
 -- how many words have a place, besides so many
 abbrev placed_from : ℕ → List Word → ℕ

@@ -39,6 +39,7 @@ use Rattle.ch_laws_messages.proofs.WayPairs.{said_more}
 use Rattle.ch_laws_messages.proofs.WaySteps.{wrote_both}
 use Rattle.ch_laws_messages.proofs.WayUps.{UpAt, up_at, named_end, across_lives, end_reads}
 use Rattle.ch_laws_messages.proofs.WayWays.{way_frames}
+use Rattle.ch_laws_messages.proofs.ArrivedWithin.{no_front}
 
 -- ---- what is written grows
 
@@ -72,10 +73,6 @@ grown journal log more world party x says = record { more = _; is = ap (λ (l : 
 
   stays : placing (said ++ later) [] 0 frames ≡ towards (party x).name (party (other x)).name log
   stays = ap (placing (said ++ later) [] 0) (sym (frames_placed said [] 0 frames)) ∙ truly_placed journal said later [] 0 _ (towards (party x).name (party (other x)).name log) (true_first journal said [] 0 _ (towards (party x).name (party (other x)).name log) _ says.words) (placed_all said [] 0 frames)
-
-no_front : {A : Type 0} (xs ys : List A) → xs ++ ys ≡ [] → xs ≡ []
-no_front [] ys e = refl
-no_front (x ∷ xs) ys e = absurd cc
 
 -- an end that has written no frame had written none
 none_before : (log more : List Entry) (s : SockName) (e : End) → frames_of (log ++ more) s e ≡ [] → frames_of log s e ≡ []

@@ -27,7 +27,7 @@ use Rattle.ch_model.specs.Sockets.{writings}
 use Rattle.ch_model.specs.World.{world_new}
 use Rattle.ch_model.specs.WorldHappenings.{with_cell}
 use Rattle.ch_model.specs.WorldLines.{can_join, can_come, can_feed}
-use Rattle.ch_model.specs.WorldSockets.{end_of, is_socket_named}
+use Rattle.ch_model.specs.WorldSockets.{end_of}
 use Rattle.ch_model.specs.WorldState.{Cell, WorldSocket, World}
 use Rattle.ch_race.specs.Pair.{Side, other}
 use Rattle.ch_laws_bytes.proofs.Lines.{own_of}
@@ -41,7 +41,6 @@ use Rattle.ch_laws_race.specs.Scene.{Party, link_of}
 use Rattle.ch_laws_reads.specs.Reads.{IsFresh, IsKept}
 use Rattle.ch_laws_writes.specs.Dues.{due_at}
 use Rattle.ch_laws_writes.specs.Orderly.{IsOrderly}
-use Rattle.ch_laws_calls.specs.FitsFit.{MayAskWell}
 use Rattle.ch_laws_calls.specs.FitsTurns.{NoDials}
 use Rattle.ch_laws_calls.proofs.FitsStores.{none_kind}
 use Rattle.ch_laws_plain_nodes.specs.Does.{Makes}
@@ -55,7 +54,6 @@ use Rattle.ch_laws_peers.specs.Standing.{IsOfNodes, Standing}
 use Rattle.ch_laws_messages.specs.WayAsked.{AskedTruly, AsksTruly}
 use Rattle.ch_laws_messages.specs.WayGoes.{written_frames, HostDoes, EndTurn, EndOpens, AllTurn, GoTruly, Turns}
 use Rattle.ch_laws_messages.specs.WayHears.{OnlySteps, HearsAlone}
-use Rattle.ch_laws_messages.proofs.WayAsks.{peers_may_ask}
 use Rattle.ch_laws_messages.proofs.WayCome.{comes_by}
 use Rattle.ch_laws_messages.proofs.WayDialed.{dial_turns}
 use Rattle.ch_laws_messages.proofs.WayHanded.{came_turns, fed_turns}
@@ -65,15 +63,13 @@ use Rattle.ch_laws_messages.proofs.WayPairs.{wrote_true, truly_bare}
 use Rattle.ch_laws_messages.proofs.WayRests.{none_new, rest_truly, told_turns}
 use Rattle.ch_laws_messages.proofs.WaySteps.{wrote_both}
 use Rattle.ch_laws_messages.proofs.WayTurned.{MayTurn, turn_turns, way_goes}
+use Rattle.ch_laws_messages.proofs.AsksTurn.{may_of}
 
 -- what is so before and after each turn
 abbrev pub Given : List Line → List Entry → World → Type 0
 Given journal log world = Both (Standing journal) (AllSay journal) log world
 
 -- ---- what is so of a turn
-
-may_of : (journal : List Line) → IsOfNodes journal → (log : List Entry) (world : World) → Standing journal log world → (s : SockName) (socket : WorldSocket) → find (is_socket_named s) world.sockets ≡ Some socket → MayAskWell journal world socket
-may_of journal j log world st = peers_may_ask journal j.is j.addresses log world st.all.sound st.all.unknocked st.peers
 
 orderly : (journal : List Line) (log : List Entry) (world : World) (place : ℕ) (cell : Cell × ℕ) → Standing journal log world → slice_get world.cells place ≡ Some cell → IsOrderly (own_of journal place) cell.0.host
 orderly journal log world place cell st at = st.all.sound.ends.flowing.orderly place cell at

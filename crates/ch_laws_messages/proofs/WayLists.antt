@@ -1,6 +1,6 @@
 -- Frames with the places that sayings give them, when more is said and more is written.
-use Rattle.std.proofs.Common.{◌≡◌, ℕ, zero, suc, List, [], ◌∷◌, ◌++◌, refl, sym, ap, ◌∙◌}
-use Rattle.std.specs.Prelude.{slice_get, Option, Some, None}
+use Rattle.std.proofs.Common.{◌≡◌, ℕ, List, [], ◌∷◌, ◌++◌, refl, sym, ap, ◌∙◌}
+use Rattle.std.specs.Prelude.{Option, Some, None}
 use Rattle.ch_wire.specs.declared.frame.Frame.{Frame}
 use Rattle.ch_wire.specs.declared.frame.Frame.TheVariants as frames
 use Rattle.ch_model.specs.declared.line.Line.{Line}
@@ -10,6 +10,7 @@ use Rattle.ch_model.specs.AccountsItems.{first_payload}
 use Rattle.ch_laws_peers.specs.Words.{Placed, Word, words_in, place_of, place_next, carried_after, placing, TrueWord, TrueWords}
 use Rattle.ch_laws_peers.specs.Says.{ArePlaced}
 use Rattle.ch_laws_peers.specs.Reads.{frames_among}
+use Rattle.ch_laws_messages.proofs.SaidWords.{got_more}
 
 -- ---- frames behind frames
 
@@ -34,11 +35,6 @@ placing_append said before n (frames.Probe ∷ xs) ys = ap (λ (l : List Placed)
 placing_append said before n (frames.ProbeAck ∷ xs) ys = ap (λ (l : List Placed). (frames.ProbeAck, None) ∷ l) (placing_append said before n xs ys)
 
 -- ---- frames whose payloads are true
-
-pub got_more : {A : Type 0} (xs ys : List A) (n : ℕ) (x : A) → slice_get xs n ≡ Some x → slice_get (xs ++ ys) n ≡ Some x
-got_more [] ys n x e = absurd cc
-got_more (y ∷ xs) ys zero x e = e
-got_more (y ∷ xs) ys (suc n) x e = got_more xs ys n x e
 
 -- a payload that is true has the place that the sayings give it, whatever is said later
 word_place : (journal : List Line) (said more : List Saying) (n : ℕ) (word : Word) (first : Option (List ℕ)) → TrueWord journal said n word first → place_next (said ++ more) n first ≡ word.1

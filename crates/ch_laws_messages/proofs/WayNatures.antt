@@ -38,14 +38,14 @@ use Rattle.ch_model.specs.HostLinks.{does_act, hears}
 use Rattle.ch_model.specs.HostState.{Link, Socket, HostState}
 use Rattle.ch_model.specs.HostSteps.{Stepped, still, after_steps, own_address, link_with, with_link, with_socket, is_socket}
 use Rattle.ch_model.specs.HostWrites.{said_of, is_up, frame_step, leaves, answers_and_leaves, end_socket}
-use Rattle.ch_model.specs.Stages.{Stage, Pending, Open, Ended, is_open, is_ended}
+use Rattle.ch_model.specs.Stages.{is_open}
 use Rattle.ch_laws_items.proofs.Next.{served}
 use Rattle.ch_laws_links.specs.Naming.{IsNaming, IsDialedBy, IsUpFor}
 use Rattle.ch_laws_links.proofs.Readings.{Matches, FrontMatches, reading_matches}
 use Rattle.ch_laws_links.proofs.Says.{used}
 use Rattle.ch_laws_log.specs.HostEnds.{IsSound}
 use Rattle.ch_laws_log.proofs.Stored.{number_is}
-use Rattle.ch_laws_writes.specs.Dues.{Due, Answering, Framing, due_of, due_staged, due_open, due_at}
+use Rattle.ch_laws_writes.specs.Dues.{Due, Answering, Framing, due_open, due_at}
 use Rattle.ch_laws_writes.specs.Orderly.{link_at}
 use Rattle.ch_laws_calls.proofs.FitsHalves.{MayHear}
 use Rattle.ch_laws_calls.proofs.FitsStores.{Stores, stored_again}
@@ -54,6 +54,7 @@ use Rattle.ch_laws_places.specs.Said.{Piece, said_at}
 use Rattle.ch_laws_plain.proofs.ReadsBrought.{own_key as of_host}
 use Rattle.ch_laws_plain.proofs.ReadsTurns.{next_done}
 use Rattle.ch_laws_messages.specs.WayNatures.{IsBarePiece, AreBarePieces, flushed, Nature, Natures, AllNatures}
+use Rattle.ch_laws_messages.proofs.SaidItemReads.{answers_is, asks_is, due_here, not_over}
 
 -- ---- links that are kept
 
@@ -253,28 +254,6 @@ read_first due links sock (Ok done) s = s
 read_first due links sock (Err stop) s = tt
 
 -- ---- what is due
-
-due_here : (host : HostState) (socket : Socket) → find (is_socket socket.number) host.sockets ≡ Some socket → is_open socket.stage ≡ true → due_at host socket.number ≡ Some (due_open socket.expected)
-due_here host socket found stands = ap due_of found ∙ by_stage socket.stage stands where
-  by_stage : (stage : Stage) → is_open stage ≡ true → due_staged stage socket ≡ Some (due_open socket.expected)
-  by_stage Open e = refl
-  by_stage Pending e = absurd cc
-  by_stage Ended e = absurd cc
-
-not_over : (stage : Stage) → is_open stage ≡ true → is_ended stage ≡ false
-not_over Open e = refl
-not_over Pending e = absurd cc
-not_over Ended e = absurd cc
-
-asks_is : (e : Expected) (request : Request) → Matches e (items.Request request) → e ≡ expected.Request
-asks_is expected.Request request m = refl
-asks_is expected.Answer request m = absurd m
-asks_is expected.Frame request m = absurd m
-
-answers_is : (e : Expected) (answer : Answer) → Matches e (items.Answer answer) → e ≡ expected.Answer
-answers_is expected.Request answer m = absurd m
-answers_is expected.Answer answer m = refl
-answers_is expected.Frame answer m = absurd m
 
 handled : (host : HostState) (socket : Socket) → IsNaming host → find (is_socket socket.number) host.sockets ≡ Some socket → is_open socket.stage ≡ true → AllNatures (due_at host) host.links (handles socket (front_of socket) host)
 handled host socket s found stands = by_front (front_of socket).0 refl where

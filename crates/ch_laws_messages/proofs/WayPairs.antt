@@ -34,7 +34,7 @@ use Rattle.ch_laws_messages.proofs.WayLists.{datas_behind, count_behind, placing
 
 -- ---- an end of x
 
-same : (a b : List ℕ) → bytes_eq a b ≡ true → a ≡ b
+pub same : (a b : List ℕ) → bytes_eq a b ≡ true → a ≡ b
 same a b h = (bytes_eq-Decides a b).0 h
 
 self : (a : List ℕ) → bytes_eq a a ≡ true

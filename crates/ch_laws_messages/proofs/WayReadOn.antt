@@ -14,7 +14,6 @@ use Rattle.ch_reader.specs.declared.item.Item.TheVariants as items
 use Rattle.ch_model.specs.declared.entry.Entry.{Entry}
 use Rattle.ch_model.specs.declared.line.Line.{Line}
 use Rattle.ch_model.specs.declared.name.End.{End}
-use Rattle.ch_model.specs.declared.name.End.TheVariants.{O, T}
 use Rattle.ch_model.specs.declared.name.SockName.{SockName}
 use Rattle.ch_model.specs.declared.step.Place.{Place}
 use Rattle.ch_model.specs.declared.step.Step.{Step}
@@ -25,7 +24,7 @@ use Rattle.ch_model.specs.HostSteps.{is_socket}
 use Rattle.ch_model.specs.HostWrites.{is_up}
 use Rattle.ch_model.specs.Same.{across, is_end_of}
 use Rattle.ch_model.specs.Sockets.{writings}
-use Rattle.ch_model.specs.Stages.{Stage, Pending, Open, Ended, is_open, is_ended}
+use Rattle.ch_model.specs.Stages.{is_open}
 use Rattle.ch_model.specs.WorldSockets.{end_of, is_socket_named, find_end}
 use Rattle.ch_model.specs.WorldState.{Cell, WorldSocket, World}
 use Rattle.ch_model.specs.WorldSteps.{first_place, item_is_read, reads_item}
@@ -54,14 +53,9 @@ use Rattle.ch_laws_messages.proofs.WayItems.{unposted_reads}
 use Rattle.ch_laws_messages.proofs.WayPairs.{IsOf, is_of}
 use Rattle.ch_laws_messages.proofs.WayUps.{UpAt, up_at, UpEnd, up_end, frame_up, both_up, named_end, own_lives}
 use Rattle.ch_laws_messages.proofs.WayWays.{items_append, follow_rest, way_frames}
-
-one_of : {A : Type 0} (x y : A) → ◌≡◌ {A = Option A} (Some x) (Some y) → x ≡ y
-one_of x y e = cc
-
-not_over : (stage : Stage) → is_open stage ≡ true → is_ended stage ≡ false
-not_over Open e = refl
-not_over Pending e = absurd cc
-not_over Ended e = absurd cc
+use Rattle.ch_laws_messages.proofs.SaidItemReads.{not_over}
+use Rattle.ch_laws_messages.proofs.SaidPuts.{one_of}
+use Rattle.ch_laws_messages.proofs.ArrivedFills.{twice}
 
 -- ---- an item at the front
 
@@ -94,10 +88,6 @@ record HasFrame (log : List Entry) (world : World) (party : Side → Party) (x :
   way : Way reader (first_at r) (end_of r socket).unread (end_of r socket).places (writings log s (across r)) (sayings (party x).name (party (other x)).name log)
   rest : List Item
   first : items_in way.all ≡ items.Frame frame ∷ rest
-
-twice : (e : End) → across (across e) ≡ e
-twice O = refl
-twice T = refl
 
 has_frame : (journal : List Line) (log : List Entry) (world : World) (more : List Entry) (after : World) (place : ℕ) (told : List Step) (new : ℕ → List PlacedItem) (party : Side → Party) (x : Side) → MayCount journal log world more after place told new party x → (cell : Cell × ℕ) (known : Socket) (n : ℕ) (probed : Bool) (frame : Frame) → slice_get world.cells (party (other x)).place ≡ Some cell
     → (link_of (scene_of party world) (other x)).state ≡ states.Up n probed → find (is_socket n) cell.0.host.sockets ≡ Some known → is_open known.stage ≡ true → (front_of known).0 ≡ Whole (items.Frame frame) → HasFrame log world party x frame

@@ -43,10 +43,8 @@ use Rattle.ch_laws_calls.proofs.ScenesGiven.{host_is}
 use Rattle.ch_laws_peers.specs.Says.{IsUpOn}
 use Rattle.ch_laws_calls.proofs.UsersKept.{users_used}
 use Rattle.ch_laws_peers.specs.Standing.{IsOfNodes, Standing}
-use Rattle.ch_laws_messages.proofs.WayPairs.{IsOf, is_of, has_end}
-
-one_of : {A : Type 0} (x y : A) → ◌≡◌ {A = Option A} (Some x) (Some y) → x ≡ y
-one_of x y e = cc
+use Rattle.ch_laws_messages.proofs.WayPairs.{IsOf, is_of, has_end, same}
+use Rattle.ch_laws_messages.proofs.SaidPuts.{one_of}
 
 clash : {A : Type 0} → true ≡ false → A
 clash e = absurd cc
@@ -110,9 +108,6 @@ up_once party world x s t e f u v = (ap (λ (a : SockName × End). a.0) both, ap
   both = one_of (s, e) (t, f) (sym u.found ∙ ap (λ (n : ℕ). find_end (party x).place n world.sockets) number ∙ v.found)
 
 -- ---- names
-
-same : (a b : List ℕ) → bytes_eq a b ≡ true → a ≡ b
-same a b h = (bytes_eq-Decides a b).0 h
 
 is : (a b : List ℕ) → a ≡ b → bytes_eq a b ≡ true
 is a b h = (bytes_eq-Decides a b).1 h
